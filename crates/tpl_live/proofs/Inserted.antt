@@ -1,9 +1,9 @@
 -- Nodes that are inserted below the root, one behind the other.
-use Rattle.std.proofs.Common.{◌≡◌, ◌<◌, ◌≤◌, ◌+◌, ℕ, suc, List, [], ◌∷◌, ◌++◌, length, length-append, map, drop, get_or, None, refl, sym, ap, subst, ◌∙◌, arith, append_assoc}
+use Rattle.std.proofs.Common.{◌≡◌, ◌<◌, ◌≤◌, ◌+◌, ℕ, suc, List, [], ◌∷◌, ◌++◌, length, length-append, map, drop, get_or, refl, sym, ap, subst, ◌∙◌, arith, append_assoc}
 use Rattle.std.proofs.lemmas.List.{drop_more, drop_all}
 use Rattle.page_model.specs.Edits.{siblings}
 use Rattle.page_model.specs.Forest.{Forest, none, node, after, keys}
-use Rattle.page_model.specs.Labels.{Kind, Root}
+use Rattle.page_model.specs.Labels.{Kind, Look, Root, Sound, shown}
 use Rattle.page_model.specs.Replay.{Answer, Done, Op, Refused, do_op, replay, then_on}
 use Rattle.page_model.specs.Trees.{AreNodes, Brings}
 use Rattle.page_tree.specs.declared.sub.Sub.{Sub}
@@ -11,8 +11,11 @@ use Rattle.page_tree.specs.Queries.{IsDone}
 use Rattle.page_tree.specs.Subs.{insertion, side_by_side, sub_tree}
 use Rattle.page_tree.proofs.Shared.{one_node}
 use Rattle.tpl_model.specs.Lines.{Block}
+use Rattle.tpl_model.specs.ShownNodes.Shapes.{all_shown}
+use Rattle.tpl_model.specs.Sources.{in_order}
+use Rattle.tpl_model.specs.declared.shown.Shown.{Shown}
 use Rattle.tpl_scratch.specs.Pages.{Numbered, with_nodes}
-use Rattle.tpl_model.specs.PageUpdates.PageMemos.{PageMemo, nodes}
+use Rattle.tpl_model.specs.PageUpdates.PageMemos.{PageMemo}
 use Rattle.tpl_live.specs.Pages.{AreInserted, Leads, below_in, inserts, shown_in}
 
 -- the first of some nodes
@@ -104,18 +107,40 @@ one_written before now o i n s rest all e f one h =
 
 -- ---- the first tree
 
--- nodes put to none, from number 1 on
-pub record PutFirst (below : Forest Kind) (many : ℕ) (subs : List Sub) (next : ℕ) : Type 0 where
-  pub nodes : side_by_side (map sub_tree subs) ≡ below
-  pub count : next ≡ 1 + many
+-- nodes that lines show, put to none, from number 1 on
+pub record PutFirst (b : Block) (m : PageMemo) (looks : Forest Look) (subs : List Sub) (next : ℕ) : Type 0 where
+  pub drawn : looks ≡ shown_in b m
+  pub nodes : side_by_side (map sub_tree subs) ≡ below_in b m
+  pub count : next ≡ 1 + length (keys (shown_in b m))
 
-pub put_first : (b : Block) (m : PageMemo) (subs : List Sub) (next : ℕ) (start : Numbered) → start ≡ record { nodes = none; next = 1 } →
-    record { nodes = side_by_side (map sub_tree subs); next = next } ≡ with_nodes start (nodes None b m) →
-    PutFirst (below_in b m) (length (keys (shown_in b m))) subs next
-put_first b m subs next start e put =
-    let all : record { nodes = side_by_side (map sub_tree subs); next = next } ≡ with_nodes (record { nodes = none; next = 1 }) (nodes None b m) =
-    put ∙ ap (λ z. with_nodes z (nodes None b m)) e in
-    record { nodes = ap (λ (z : Numbered). z.nodes) all; count = ap (λ (z : Numbered). z.next) all }
+pub put_first : (b : Block) (m : PageMemo) (before : List Shown) (looks : Forest Look) (subs : List Sub) (next : ℕ) (start : Numbered) → before ≡ [] →
+    looks ≡ after (all_shown before) (shown_in b m) → Sound (shown_in b m) → start ≡ record { nodes = none; next = 1 } →
+    (Sound looks → record { nodes = side_by_side (map sub_tree subs); next = next } ≡ with_nodes start looks) → PutFirst b m looks subs next
+put_first b m before looks subs next start none_before are sound e put =
+    let is : looks ≡ shown_in b m = are ∙ ap (λ z. after (all_shown z) (shown_in b m)) none_before in
+    let all : record { nodes = side_by_side (map sub_tree subs); next = next } ≡ with_nodes (record { nodes = none; next = 1 }) (shown_in b m) =
+    put (subst (λ (z : Forest Look). Sound z) (sym is) sound) ∙ (λ i. with_nodes (e i) (is i)) in
+    record { drawn = is; nodes = ap (λ (z : Numbered). z.nodes) all; count = ap (λ (z : Numbered). z.next) all }
+
+many_in_order : (n : ℕ) (t : Forest Look) → length (keys (shown (in_order n t))) ≡ length (keys t)
+many_in_order n none = refl
+many_in_order n (node a x k r) =
+    let later = suc n + length (keys k) in
+    let i = many_in_order (suc n) k in
+    let j = many_in_order later r in
+    let u = length-append (keys (shown (in_order (suc n) k))) (keys (shown (in_order later r))) in
+    let v = length-append (keys k) (keys r) in
+    omega (arith, i, j, u, v)
+
+-- the tree has a number for each of these nodes, and for the root
+pub many_inserted : (b : Block) (m : PageMemo) (looks : Forest Look) (tree : Forest Kind) → looks ≡ shown_in b m → tree ≡ node 0 Root (below_in b m) none →
+    length (keys looks) + 1 ≡ length (keys tree)
+many_inserted b m looks tree is e =
+    let a = ap (λ (z : Forest Look). length (keys z)) is in
+    let t = ap (λ (z : Forest Kind). length (keys z)) e in
+    let n = many_in_order 1 (shown_in b m) in
+    let u = length-append (keys (below_in b m)) [] in
+    omega (arith, a, t, n, u)
 
 -- nodes that can be inserted lead somewhere
 pub below_leads : (below tree : Forest Kind) → AreInserted below → tree ≡ node 0 Root none none → Leads (inserts 0 below) tree

@@ -12,7 +12,7 @@ use Rattle.signal_model.specs.Memos.{Memos}
 use Rattle.signal_model.specs.Signals.{Signals}
 use Rattle.signal_laws.specs.ReadLaws.{firsts_after}
 use Rattle.page_model.specs.Forest.{Forest, keys, kids, node, none}
-use Rattle.page_model.specs.Labels.{Kind, Root, shown}
+use Rattle.page_model.specs.Labels.{Kind, Look, Root, Sound, shown}
 use Rattle.page_model.specs.Pages.{IsPage, NumberedPage, bare, edits_between, page_shape, renumbered, tree_of}
 use Rattle.page_model.specs.Replay.{Op}
 use Rattle.page_model.specs.Trees.{AreNodes}
@@ -30,7 +30,6 @@ use Rattle.tpl_hearing.specs.Heard.{AreFromScratch, HaveRows, HasRows, Hears, Ou
 use Rattle.tpl_hearing.proofs.Shared.{heard_scratch}
 use Rattle.tpl_model.specs.KeptLines.Memos.{Makes, lines_memo}
 use Rattle.tpl_live.specs.Pages.{AreInserted, AreKnown, Standing, Stands, below_in, inserts, lines_shape, outcome_in, page_in, shown_in}
-use Rattle.tpl_live.proofs.Numbered.{many_there}
 use Rattle.tpl_live.proofs.Mounted.{MountedAs, leads, mounted}
 use Rattle.tpl_live.proofs.Sourced.{made_on, made_right, names_heard}
 
@@ -97,6 +96,15 @@ can_insert lines b links heard m own made =
     subst (λ z. AreInserted (below_in z m)) (sym own)
     (subst AreInserted (ap (λ z. shown (in_order 1 z)) (sym same_nodes)) (can_show lines links source made.template made.rows))
 
+-- they have children only where they can hold them, and each attribute once
+pub made_sound : (lines : List Line) (b : Block) (links : List ℕ) (heard : Outcomes) (m : PageMemo) → b ≡ block_of lines → AreMade lines links heard m →
+    Sound (shown_in b m)
+made_sound lines b links heard m own made =
+    let source = outcome_in heard in
+    let same : memo_shape lines m ≡ shape_on lines links source = ap (memo_shape lines) made.memo ∙ shape_shown lines links source in
+    let sound = (shape_law lines (evaluating links source) made.template made.rows).sound in
+    subst (λ z. Sound (shown_in z m)) (sym own) (subst (λ (z : Forest Look). Sound z) (sym same) sound).2
+
 -- the page as it stands
 stands_as : (lines : List Line) (links : List ℕ) (s : Standing) (below : Forest Kind) → s.lines ≡ block_of lines → AreMade lines links s.heard s.memo →
     below ≡ below_in (block_of lines) s.memo → s.next ≡ 1 + length (keys (shown_in (block_of lines) s.memo)) → s.tree ≡ node 0 Root below none →
@@ -126,15 +134,6 @@ stands lines links s own linked made next tree knows =
       names = names_heard (keys_of s.heard) (names s.memo) made.order;
       known = knows (page_in s) x.keeps.page (shape_of lines links s (below_in s.lines s.memo) own x) x.keeps.stands;
     }
-
--- there is a number for each node that is shown and for the root
-pub many_mounted : (lines : List Line) (links : List ℕ) (s : Standing) → s.lines ≡ block_of lines → AreMade lines links s.heard s.memo →
-    s.next ≡ 1 + length (keys (shown_in s.lines s.memo)) → s.tree ≡ node 0 Root (below_in s.lines s.memo) none →
-    length (keys (shown_in s.lines s.memo)) + 1 ≡ length (keys s.tree)
-many_mounted lines links s own made next tree =
-    let x = stands_as lines links s (below_in s.lines s.memo) own made (ap (λ z. below_in z s.memo) own)
-    (next ∙ ap (λ z. 1 + length (keys (shown_in z s.memo))) own) tree in
-    many_there (page_in s) (shown_in s.lines s.memo) s.tree x.keeps.page (shape_of lines links s (below_in s.lines s.memo) own x) x.keeps.stands
 
 -- it is that of the signals, and so are the operations
 pub record IsUpdated (hosts : Hosts) (w : Signals) (lines : List Line) (links : List ℕ) (k : Memos) (s : Standing) (os : List Op) : Type 0 where

@@ -1,30 +1,33 @@
-// The first tree of a page, and the operations that lead to it.
+// The first nodes of a page, and the operations that lead to them.
 ghost use Rattle.std.specs.Prelude.{◌≡◌, ◌+◌, map, length, IfOk, OnOk};
 ghost use Rattle.page_model.specs.Forest.{keys, node, none};
-ghost use Rattle.page_model.specs.Labels.{Root};
+ghost use Rattle.page_model.specs.Labels.{Root, Sound};
+ghost use Rattle.page_model.specs.Pages.{NumberedPage, IsPage, page_shape, tree_of};
 ghost use Rattle.page_model.specs.Replay.{replay, Done};
 ghost use Rattle.page_model.specs.Trees.{AreNodes};
 ghost use Rattle.page_ops.specs.Ops.{op_of};
 ghost use Rattle.page_tree.specs.Subs.{side_by_side, sub_tree};
 ghost use Rattle.tpl_blocks.specs.Blocks.{block};
 ghost use Rattle.tpl_model.specs.KeptLines.Kept.{kept};
-ghost use Rattle.tpl_live.specs.Pages.{below_in, inserts, shown_in, AreInserted, Leads};
+ghost use Rattle.tpl_drawn.specs.Addresses.{number_at};
+ghost use Rattle.tpl_live.specs.Pages.{below_in, inserts, lines_shape, shown_in, AreInserted, AreKnown, Leads};
 
+use crate::plan::read_numbers;
 use page_ops::Op;
 use page_tree::{Sub, Tree};
 use sig_base::NoMemory;
 use std::alloc::Global;
 use tpl_blocks::Block;
-use tpl_drawn::put_nodes;
+use tpl_drawn::{PageNodes, put_shown};
 use tpl_model::PageMemo;
+use tpl_patch::put_nodes;
 use tpl_scratch::Nodes;
 
-/// A first tree, the operations that lead to it, and the next unused number.
+/// The first nodes of a page, and the operations that lead to them.
 #[derive(Drop)]
 pub struct First {
-    pub tree: Tree,
+    pub nodes: PageNodes,
     pub ops: Vec<Op>,
-    pub next: u64,
 }
 
 // Inserts nodes below the root, one behind the other.
@@ -69,21 +72,32 @@ fn insertions(alloc: Global, subs: Vec<Sub>) -> Result<Vec<Op>, NoMemory>
     Ok(ops)
 }
 
-/// The first tree of a page, by what is kept of its lines.
+/// The first nodes of a page, by what is kept of its lines: these are shown once, and tree, operations and numbers are made of that.
 ///
 /// # Errors
 ///
 /// `NoMemory` alone.
-pub fn first_tree(alloc: Global, lines: &Block, memo: &PageMemo) -> Result<First, NoMemory>
-    requires { AreInserted (below_in (block lines.now) (kept memo.now)) }
-    ensures tree { IfOk result (λ f. f.tree ≡ node 0 Root (below_in (block lines.now) (kept memo.now)) none) }
+pub fn first_nodes(alloc: Global, lines: &Block, memo: &PageMemo) -> Result<First, NoMemory>
+    requires inserted { AreInserted (below_in (block lines.now) (kept memo.now)) }
+    requires sound { Sound (shown_in (block lines.now) (kept memo.now)) }
+    ensures tree { IfOk result (λ f. f.nodes.tree ≡ node 0 Root (below_in (block lines.now) (kept memo.now)) none) }
     ensures ops { IfOk result (λ f. map op_of f.ops.items ≡ inserts 0 (below_in (block lines.now) (kept memo.now))) }
-    ensures next { IfOk result (λ f. f.next ≡ 1 + length (keys (shown_in (block lines.now) (kept memo.now)))) }
+    ensures next { IfOk result (λ f. f.nodes.next ≡ 1 + length (keys (shown_in (block lines.now) (kept memo.now)))) }
+    ensures numbers { (p : NumberedPage) → IsPage p → page_shape p ≡ lines_shape (block lines.now) (kept memo.now) → IfOk result (λ f.
+        f.nodes.tree ≡ tree_of p → AreKnown p f.nodes.tree (number_at f.nodes.numbers)) }
 {
+    let mut shown = Vec::new(alloc);
+    put_shown(alloc, None, lines, memo, &mut shown)?;
     let mut out = Nodes::new(alloc);
-    put_nodes(alloc, lines, memo, &mut out)?;
+    put_nodes(alloc, &shown, &mut out)?;
     let Nodes { subs, next } = out;
     let tree = tree_below(alloc, &subs)?;
+    let numbers = read_numbers(alloc, shown, &tree)?;
     let ops = insertions(alloc, subs)?;
-    Ok(First { tree, ops, next })
+    let nodes = PageNodes {
+        tree,
+        numbers,
+        next,
+    };
+    Ok(First { nodes, ops })
 }

@@ -16,8 +16,8 @@ ghost use Rattle.tpl_hearing.specs.Heard.{scene, Settles};
 ghost use Rattle.tpl_live.specs.Pages.{page_in, IsStanding, Stands};
 ghost use Rattle.tpl_live.specs.Contents.{standing};
 
-use crate::first::{First, first_tree};
-use crate::plan::{carry, numbers_of};
+use crate::first::{First, first_nodes};
+use crate::plan::carry;
 use page_ops::Op;
 use page_tree::Tree;
 use sig_base::{NoMemory, NodeId};
@@ -108,14 +108,8 @@ impl Page {
         let made = make(alloc, graph, shelf, &mut heard, &lines, &links, None, notes)?;
         let memo = Box::new(alloc, made)?;
         heard.good();
-        let first = first_tree(alloc, &lines, &memo)?;
-        let First { tree, ops, next } = first;
-        let numbers = numbers_of(alloc, &lines, &memo, &tree)?;
-        let nodes = PageNodes {
-            tree,
-            numbers,
-            next,
-        };
+        let first = first_nodes(alloc, &lines, &memo)?;
+        let First { nodes, ops } = first;
         let page = Page {
             lines,
             links,

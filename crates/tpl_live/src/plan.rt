@@ -1,7 +1,7 @@
 // How a page comes up to date: the numbers of its nodes, and the operations that lead to the next tree, all read from the tree that stands.
 ghost use Rattle.std.specs.Prelude.{◌≡◌, ◌<◌, ◌^◌, ◌+◌, ◌++◌, ◌∷◌, [], length, map, IfOk, OnOk};
-ghost use Rattle.page_model.specs.Forest.{Forest, keys};
-ghost use Rattle.page_model.specs.Labels.{Kind};
+ghost use Rattle.page_model.specs.Forest.{Forest, keys, node, none};
+ghost use Rattle.page_model.specs.Labels.{Kind, Root};
 ghost use Rattle.page_model.specs.Pages.{NumberedPage, IsPage, new_order, page_shape, tree_of};
 ghost use Rattle.page_model.specs.Replay.{do_op, replay, Done};
 ghost use Rattle.page_model.specs.Trees.{Brings};
@@ -13,7 +13,7 @@ ghost use Rattle.tpl_drawn.specs.Addresses.{coming_below, noted_from, number_at}
 ghost use Rattle.tpl_model.specs.KeptLines.Kept.{kept};
 ghost use Rattle.tpl_patch.specs.Moves.{AllFit, AllSound, number_behind};
 ghost use Rattle.tpl_model.specs.ShownNodes.Addresses.{address_of};
-ghost use Rattle.tpl_model.specs.ShownNodes.Shapes.{child_of, mark_of};
+ghost use Rattle.tpl_model.specs.ShownNodes.Shapes.{all_shown, child_of, mark_of};
 ghost use Rattle.tpl_live.specs.Pages.{lines_shape, shown_in, AreKnown};
 ghost use Rattle.tpl_live.specs.Plans.{children_staying, number_staying, keeps_children, moving, numbers_of as numbers_in, numbers_staying, ops_towards, AllBring, CanCompare, Carries, Compares, LeadOn};
 
@@ -24,15 +24,29 @@ use std::alloc::Global;
 use tpl_blocks::Block;
 use tpl_drawn::{Compared, Numbers, PageNodes, compared, put_addresses, put_coming, put_shown};
 use tpl_kept::Renewed;
-use tpl_model::{Address, Change, Child, Mark, PageMemo};
+use tpl_model::{Address, Change, Child, Mark, PageMemo, Shown};
 use tpl_patch::{NumberSet, put_looks, put_moves, removals};
 
-/// The numbers of a page's nodes below the root, by their addresses, from what is kept of its lines and from its tree.
+/// The numbers of a page's nodes, by their addresses, from those that it shows below the root and from its tree.
 ///
 /// # Errors
 ///
 /// `NoMemory` alone.
-pub fn numbers_of(
+pub fn read_numbers(alloc: Global, nodes: Vec<Shown>, tree: &Tree) -> Result<Numbers, NoMemory>
+    requires { length (keys (all_shown nodes.items)) + 1 ≡ length (keys tree.now) }
+    ensures { (p : NumberedPage) → IsPage p → page_shape p ≡ node 0 Root (all_shown nodes.items) none → tree.now ≡ tree_of p →
+        IfOk result (λ n. AreKnown p tree.now (number_at n)) }
+{
+    let mut addresses = Vec::new(alloc);
+    put_addresses(nodes, &mut addresses)?;
+    let mut all = Vec::new(alloc);
+    tree.put_numbers(&mut all)?;
+    let numbers = Numbers::of(alloc, addresses, &all)?;
+    Ok(numbers)
+}
+
+// The numbers of a page's nodes, by their addresses, from what is kept of its lines and from its tree.
+fn numbers_of(
     alloc: Global,
     lines: &Block,
     memo: &PageMemo,
@@ -44,11 +58,7 @@ pub fn numbers_of(
 {
     let mut shown = Vec::new(alloc);
     put_shown(alloc, None, lines, memo, &mut shown)?;
-    let mut addresses = Vec::new(alloc);
-    put_addresses(shown, &mut addresses)?;
-    let mut all = Vec::new(alloc);
-    tree.put_numbers(&mut all)?;
-    let numbers = Numbers::of(alloc, addresses, &all)?;
+    let numbers = read_numbers(alloc, shown, tree)?;
     Ok(numbers)
 }
 

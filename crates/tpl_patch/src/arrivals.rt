@@ -2,7 +2,7 @@
 ghost use Rattle.std.specs.Prelude.{◌≡◌, ◌++◌, ◌∷◌, ℕ, [], map, OnOk, IfOk};
 ghost use Rattle.page_model.specs.Forest.{node, none};
 ghost use Rattle.page_model.specs.Labels as label;
-ghost use Rattle.page_model.specs.Labels.{Sound, present, with_value};
+ghost use Rattle.page_model.specs.Labels.{Sound, present};
 ghost use Rattle.tpl_patch.specs.Moves.{AreSound, arrivals, next_numbers};
 ghost use Rattle.tpl_scratch.specs.Pages.{nodes_of, with_nodes};
 ghost use Rattle.tpl_model.specs.ShownNodes.Shapes.{all_shown, child_of, shown_tree};
@@ -10,22 +10,15 @@ ghost use Rattle.tpl_model.specs.ShownNodes.Shapes.{all_shown, child_of, shown_t
 use sig_base::{NoMemory, Text};
 use std::alloc::Global;
 use tpl_model::{Child, Look, Shown};
-use tpl_scratch::{Nodes, put_named};
+use tpl_scratch::{Nodes, put_attribute, put_named};
 
-fn put_present(
-    attribute: &(Text, Option<Text>),
-    out: &mut Vec<(Text, Text)>,
-) -> Result<(), NoMemory>
-    ensures { OnOk result (out.new.items ≡ out.old.items ++ with_value attribute.now.0 attribute.now.1 []) }
+// The same value, or none.
+fn copied(value: &Option<Text>) -> Result<Option<Text>, NoMemory>
+    ensures { IfOk result (λ copy. copy ≡ value.now) }
 {
-    match &attribute.1 {
-        None => Ok(()),
-        Some(value) => {
-            let name = attribute.0.copy()?;
-            let value = value.copy()?;
-            out.push((name, value))?;
-            Ok(())
-        }
+    match value {
+        None => Ok(None),
+        Some(value) => Ok(Some(value.copy()?)),
     }
 }
 
@@ -37,7 +30,8 @@ fn put_attributes(
     ensures { OnOk result (out.new.items ≡ out.old.items ++ present attributes.now) }
 {
     for attribute in attributes {
-        put_present(attribute, out)?;
+        let value = copied(&attribute.1)?;
+        put_attribute(out, &attribute.0, value)?;
     }
     Ok(())
 }
@@ -80,8 +74,13 @@ fn put_node(alloc: Global, node: &Shown, out: &mut Nodes) -> Result<(), NoMemory
     }
 }
 
+/// Appends nodes with all below them, in document order and under the next numbers.
+///
+/// # Errors
+///
+/// `NoMemory` alone.
 #[cycle(coming)]
-fn put_nodes(alloc: Global, nodes: &[Shown], out: &mut Nodes) -> Result<(), NoMemory>
+pub fn put_nodes(alloc: Global, nodes: &[Shown], out: &mut Nodes) -> Result<(), NoMemory>
     ensures { Sound (all_shown nodes.now) → OnOk result (nodes_of out.new ≡ with_nodes (nodes_of out.old) (all_shown nodes.now)) }
 {
     for node in nodes {

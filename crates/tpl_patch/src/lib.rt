@@ -8,6 +8,7 @@ mod looks;
 mod moves;
 mod set;
 
+pub use arrivals::put_nodes;
 pub use leaving::removals;
 pub use looks::put_looks;
 pub use moves::put_moves;

@@ -1,38 +1,22 @@
-use Rattle.std.proofs.Common.{◌≡◌, ◌++◌, length, map, sym, ap, ◌∙◌, arith}
-use Rattle.page_model.specs.Forest.{after, keys}
+use Rattle.std.proofs.Common.{◌≡◌, ◌+◌, length, sym, ap, subst, ◌∙◌}
+use Rattle.page_model.specs.Forest.{Forest, after, keys, node, none}
+use Rattle.page_model.specs.Labels.{Look, Root}
 use Rattle.tpl_blocks.specs.Blocks.{block}
-use Rattle.tpl_drawn.specs.Addresses.{number_at}
 use Rattle.tpl_model.specs.KeptLines.Kept.{kept}
-use Rattle.tpl_model.specs.ShownNodes.Addresses.{address_of}
 use Rattle.tpl_model.specs.ShownNodes.Shapes.{all_shown}
 use Rattle.tpl_live.specs.Pages.{shown_in}
-use Rattle.tpl_live.proofs.Followed.{known_numbers}
-use Rattle.tpl_live.proofs.Numbered.{known_so, many_mapped}
 use Rattle.tpl_live.proofs.plan.numbers_of.Goals as goal
 
-pub of-requires : goal.of-requires
-of-requires c =
+pub read_numbers-requires : goal.read_numbers-requires
+read_numbers-requires c =
     let below = shown_in (block c.args.lines.now) (kept c.args.memo.now) in
     let e : all_shown c.put_shown.new.out.items ≡ below =
     c.in_ok-put_shown.ensures ∙ ap (λ z. after (all_shown z) below) c.new-shown.ensures.items in
-    let a : map address_of c.put_addresses.new.out.items ≡ keys below =
-    c.in_ok-put_addresses.ensures ∙ (ap (λ z. map address_of z ++ keys (all_shown c.put_shown.new.out.items)) c.new-addresses.ensures.items ∙ ap keys e) in
-    let n : c.put_numbers.new.out.items ≡ keys c.args.tree.now =
-    c.in_ok-put_numbers.ensures ∙ ap (λ z. z ++ keys c.args.tree.now) c.new-all.ensures.items in
-    let many = sym (many_mapped address_of c.put_addresses.new.out.items) ∙ ap length a in
-    let count = ap length n in
-    let all = c.requires in
-    rw c.deref.ensures.value (omega (arith, many, count, all))
+    subst (λ (z : Forest Look). length (keys z) + 1 ≡ length (keys c.args.tree.now)) (sym e) c.requires
 
 pub returns : goal.returns
 returns c = λ p q shape stands.
     let below = shown_in (block c.args.lines.now) (kept c.args.memo.now) in
     let e : all_shown c.put_shown.new.out.items ≡ below =
     c.in_ok-put_shown.ensures ∙ ap (λ z. after (all_shown z) below) c.new-shown.ensures.items in
-    let a : map address_of c.put_addresses.new.out.items ≡ keys below =
-    c.in_ok-put_addresses.ensures ∙ (ap (λ z. map address_of z ++ keys (all_shown c.put_shown.new.out.items)) c.new-addresses.ensures.items ∙ ap keys e) in
-    let n : c.put_numbers.new.out.items ≡ keys c.args.tree.now =
-    c.in_ok-put_numbers.ensures ∙ ap (λ z. z ++ keys c.args.tree.now) c.new-all.ensures.items in
-    known_numbers p c.args.tree.now (number_at c.in_ok-numbers.numbers) q stands
-    (known_so p below c.args.tree.now (number_at c.in_ok-numbers.numbers) (map address_of c.put_addresses.new.out.items) c.put_numbers.new.out.items
-    (rw c.deref.ensures.value at c.in_ok-numbers.ensures) a n q shape stands)
+    c.in_ok-numbers.ensures p q (shape ∙ ap (λ (z : Forest Look). node 0 Root z none) (sym e)) stands

@@ -10,8 +10,9 @@ loop-attribute-preserved c =
     let xs = c.args.attributes.now in
     let x = c.attribute-item.result in
     let rest : drop i xs ≡ x ∷ drop (i + 1) xs = drop_more xs i x c.loop-attribute-test.true ∙ ap (λ z. z ∷ drop (i + 1) xs) (sym c.attribute-item.is) in
-    step_out c.loop-attribute.out.items c.put_present.new.out.items (with_value x.0 x.1 []) (present (drop (i + 1) xs)) (present (drop i xs))
-    (c.args.out.now.items ++ present xs) c.in_ok-put_present.ensures (ap present rest ∙ one_present x.0 x.1 (present (drop (i + 1) xs))) c.loop-attribute.invariant
+    let put = c.in_ok-put_attribute.ensures ∙ ap (λ z. c.loop-attribute.out.items ++ with_value x.0 z []) c.in_ok-value.ensures in
+    step_out c.loop-attribute.out.items c.put_attribute.new.out.items (with_value x.0 x.1 []) (present (drop (i + 1) xs)) (present (drop i xs))
+    (c.args.out.now.items ++ present xs) put (ap present rest ∙ one_present x.0 x.1 (present (drop (i + 1) xs))) c.loop-attribute.invariant
 
 pub returns : goal.returns
 returns c =

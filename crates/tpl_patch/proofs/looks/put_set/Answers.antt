@@ -1,4 +1,4 @@
-use Rattle.std.proofs.Common.{true, false, sym, ap, ◌∙◌, map}
+use Rattle.std.proofs.Common.{sym, ap, ◌∙◌, map}
 use Rattle.page_model.specs.Edits.{same_value}
 use Rattle.page_model.specs.Forest.{label_in}
 use Rattle.page_model.specs.Labels.{Root}

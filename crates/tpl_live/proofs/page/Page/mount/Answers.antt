@@ -6,7 +6,7 @@ use Rattle.tpl_drawn.specs.Addresses.{number_at}
 use Rattle.tpl_model.specs.KeptLines.Memos.{Makes, lines_memo}
 use Rattle.tpl_model.specs.KeptLines.Kept.{kept}
 use Rattle.tpl_live.specs.Pages.{Standing}
-use Rattle.tpl_live.proofs.Mounts.{AreMade, are_made, can_insert, is_updated, many_mounted, stands}
+use Rattle.tpl_live.proofs.Mounts.{AreMade, are_made, can_insert, is_updated, made_sound, stands}
 use Rattle.tpl_live.proofs.Sourced.{settled_right}
 use Rattle.tpl_live.proofs.page.Page.mount.Goals as goal
 
@@ -16,8 +16,8 @@ make-requires-clause-can g c =
     let room = c.requires.room in
     record { idle = c.requires.idle; there = c.requires.there; worn = omega (arith, worn); room = omega (arith, room) }
 
-pub first_tree-requires : goal.first_tree-requires
-first_tree-requires g c =
+pub first_nodes-requires-clause-inserted : goal.first_nodes-requires-clause-inserted
+first_nodes-requires-clause-inserted g c =
     let lines = lines_of c.args.template.now in
     let own = block (box_value c.in_ok-lines.lines) in
     let is = ap block c.in_ok-lines.ensures.ok ∙ c.in_ok-own.ensures in
@@ -28,8 +28,8 @@ first_tree-requires g c =
     (rw (c.deref.ensures, c.deref-2.ensures.value) at c.in_ok-made.ensures.made)) c.good.ensures in
     rw (c.deref-3.ensures, c.deref-4.ensures) (can_insert lines own c.args.links.items c.make.new.heard memo is made)
 
-pub numbers_of-requires : goal.numbers_of-requires
-numbers_of-requires g c =
+pub first_nodes-requires-clause-sound : goal.first_nodes-requires-clause-sound
+first_nodes-requires-clause-sound g c =
     let lines = lines_of c.args.template.now in
     let own = block (box_value c.in_ok-lines.lines) in
     let is = ap block c.in_ok-lines.ensures.ok ∙ c.in_ok-own.ensures in
@@ -38,18 +38,7 @@ numbers_of-requires g c =
     are_made lines own c.args.links.items c.new-heard.result c.make.new.heard memo c.requires.template is c.new-heard.ensures
     (subst (λ m. Makes (lines_memo own) c.args.links.items None c.new-heard.result c.make.new.heard (kept m)) (sym c.in_ok-memo.ensures.ok)
     (rw (c.deref.ensures, c.deref-2.ensures.value) at c.in_ok-made.ensures.made)) c.good.ensures in
-    let first = c.in_ok-first.first in
-    let f = rw (c.deref-3.ensures, c.deref-4.ensures) at c.in_ok-first.ensures in
-    let s : Standing = record {
-      lines = own;
-      links = c.args.links.items;
-      heard = c.make.new.heard;
-      memo = memo;
-      next = first.next;
-      tree = first.tree;
-      number = λ a. None;
-    } in
-    rw (c.deref-5.ensures, c.deref-6.ensures) (many_mounted lines c.args.links.items s is made f.next f.tree)
+    rw (c.deref-3.ensures, c.deref-4.ensures) (made_sound lines own c.args.links.items c.make.new.heard memo is made)
 
 pub returns-clause-stands : goal.returns-clause-stands
 returns-clause-stands g c =
@@ -68,11 +57,11 @@ returns-clause-stands g c =
       links = c.args.links.items;
       heard = c.make.new.heard;
       memo = memo;
-      next = first.next;
-      tree = first.tree;
-      number = number_at c.in_ok-numbers.numbers;
+      next = first.nodes.next;
+      tree = first.nodes.tree;
+      number = number_at first.nodes.numbers;
     } in
-    stands lines c.args.links.items s is refl made f.next f.tree (rw (c.deref-5.ensures, c.deref-6.ensures) at c.in_ok-numbers.ensures)
+    stands lines c.args.links.items s is refl made f.next f.tree f.numbers
 
 pub returns-clause-page : goal.returns-clause-page
 returns-clause-page g c = λ hosts all stay.
@@ -91,9 +80,9 @@ returns-clause-page g c = λ hosts all stay.
       links = c.args.links.items;
       heard = c.make.new.heard;
       memo = memo;
-      next = first.next;
-      tree = first.tree;
-      number = number_at c.in_ok-numbers.numbers;
+      next = first.nodes.next;
+      tree = first.nodes.tree;
+      number = number_at first.nodes.numbers;
     } in
     (is_updated _ _ _ _ lines c.args.links.items c.new-heard.result s (map op_of first.ops.items) hosts c.new-heard.ensures c.in_ok-made.ensures.after all stay
     is made f.next f.tree f.ops).page
@@ -115,9 +104,9 @@ returns-clause-ops g c = λ hosts all stay.
       links = c.args.links.items;
       heard = c.make.new.heard;
       memo = memo;
-      next = first.next;
-      tree = first.tree;
-      number = number_at c.in_ok-numbers.numbers;
+      next = first.nodes.next;
+      tree = first.nodes.tree;
+      number = number_at first.nodes.numbers;
     } in
     (is_updated _ _ _ _ lines c.args.links.items c.new-heard.result s (map op_of first.ops.items) hosts c.new-heard.ensures c.in_ok-made.ensures.after all stay
     is made f.next f.tree f.ops).ops

@@ -1,0 +1,31 @@
+use Rattle.std.proofs.Common.{◌≡◌, ◌++◌, length, map, sym, ap, ◌∙◌, arith}
+use Rattle.page_model.specs.Forest.{keys}
+use Rattle.tpl_drawn.specs.Addresses.{number_at}
+use Rattle.tpl_model.specs.ShownNodes.Addresses.{address_of}
+use Rattle.tpl_model.specs.ShownNodes.Shapes.{all_shown}
+use Rattle.tpl_live.proofs.Followed.{known_numbers}
+use Rattle.tpl_live.proofs.Numbered.{known_so, many_mapped}
+use Rattle.tpl_live.proofs.plan.read_numbers.Goals as goal
+
+pub of-requires : goal.of-requires
+of-requires c =
+    let below = all_shown c.args.nodes.items in
+    let a : map address_of c.put_addresses.new.out.items ≡ keys below =
+    c.in_ok-put_addresses.ensures ∙ ap (λ z. map address_of z ++ keys below) c.new-addresses.ensures.items in
+    let n : c.put_numbers.new.out.items ≡ keys c.args.tree.now =
+    c.in_ok-put_numbers.ensures ∙ ap (λ z. z ++ keys c.args.tree.now) c.new-all.ensures.items in
+    let many = sym (many_mapped address_of c.put_addresses.new.out.items) ∙ ap length a in
+    let count = ap length n in
+    let all = c.requires in
+    rw c.deref.ensures.value (omega (arith, many, count, all))
+
+pub returns : goal.returns
+returns c = λ p q shape stands.
+    let below = all_shown c.args.nodes.items in
+    let a : map address_of c.put_addresses.new.out.items ≡ keys below =
+    c.in_ok-put_addresses.ensures ∙ ap (λ z. map address_of z ++ keys below) c.new-addresses.ensures.items in
+    let n : c.put_numbers.new.out.items ≡ keys c.args.tree.now =
+    c.in_ok-put_numbers.ensures ∙ ap (λ z. z ++ keys c.args.tree.now) c.new-all.ensures.items in
+    known_numbers p c.args.tree.now (number_at c.in_ok-numbers.numbers) q stands
+    (known_so p below c.args.tree.now (number_at c.in_ok-numbers.numbers) (map address_of c.put_addresses.new.out.items) c.put_numbers.new.out.items
+    (rw c.deref.ensures.value at c.in_ok-numbers.ensures) a n q shape stands)
