@@ -1,5 +1,5 @@
 // The words of a line, and the job that is wanted of them.
-use live_words::{Job, read_job};
+use live_words::{Job, ScriptJob, read_job};
 use std::alloc::Global;
 use std::test::Fail;
 
@@ -17,15 +17,19 @@ fn job_in(alloc: Global, line: &str) -> Result<Option<Job>, Fail> {
 #[test]
 fn words_name_jobs(rt: HostRuntime) -> Result<(), Fail> {
     for (line, want) in [
-        ("run", Job::Run),
-        ("run --", Job::Run),
-        ("-- run", Job::Run),
-        ("run --trace", Job::Trace),
-        ("--trace run", Job::Trace),
-        ("bench 1", Job::Bench(1)),
-        ("bench -- 4", Job::Bench(4)),
-        ("-- bench 4", Job::Bench(4)),
-        ("bench 100000", Job::Bench(100_000)),
+        ("run", Job::Script(ScriptJob::Run)),
+        ("run --", Job::Script(ScriptJob::Run)),
+        ("-- run", Job::Script(ScriptJob::Run)),
+        ("run --trace", Job::Script(ScriptJob::Trace)),
+        ("--trace run", Job::Script(ScriptJob::Trace)),
+        ("bench 1", Job::Script(ScriptJob::Bench(1))),
+        ("bench -- 4", Job::Script(ScriptJob::Bench(4))),
+        ("-- bench 4", Job::Script(ScriptJob::Bench(4))),
+        ("bench 100000", Job::Script(ScriptJob::Bench(100_000))),
+        ("wire", Job::Script(ScriptJob::Wire)),
+        ("-- wire", Job::Script(ScriptJob::Wire)),
+        ("follow", Job::Follow),
+        ("follow --", Job::Follow),
     ] {
         assert!(rt; job_in(rt.alloc(), line)? == Some(want), "at {line}");
     }
@@ -62,6 +66,11 @@ fn other_words_name_none(rt: HostRuntime) -> Result<(), Fail> {
         "bench 100001",
         "bench 4294967300",
         "bench 4 --trace",
+        "wire 4",
+        "wire --trace",
+        "follow 4",
+        "follow --trace",
+        "wire follow",
     ] {
         assert!(rt; job_in(rt.alloc(), line)?.is_none(), "at {line}");
     }

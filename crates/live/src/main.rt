@@ -1,4 +1,4 @@
-//! Runs a script from standard input, or a generated one, and prints what it tells on standard output.
+//! Runs a script from standard input, or a generated one, and prints what it tells on standard output, or writes it as frames, or follows frames.
 #![tactic(auto)]
 
 use host_samples::{Cascade, Clamp, Pick, lend};
@@ -59,7 +59,7 @@ fn run(rt: &(impl Env + Input + Print + AllocGlobal)) -> Status {
 fn main(rt: HostRuntime) -> ExitCode {
     let status = run(&rt);
     if status == Status::Usage {
-        let _ = eprintln!(rt; "usage: live run [--trace] | live bench N");
+        let _ = eprintln!(rt; "usage: live run [--trace] | live bench N | live wire | live follow");
     }
     ExitCode::from(status as u8)
 }

@@ -9,7 +9,7 @@ use Rattle.live_cmd.specs.declared.command.Item.{Item}
 use Rattle.live_cmd.specs.Items.{ItemsFrom}
 use Rattle.live_entries.specs.declared.entry.Entry.{Entry}
 use Rattle.live_entries.specs.Printed.{printed}
-use Rattle.live_words.specs.declared.jobs.Job.TheVariants as job
+use Rattle.live_words.specs.declared.jobs.ScriptJob.TheVariants as job
 use Rattle.live_model.specs.Machine.{Machine, step}
 use Rattle.live_model.specs.Output.{entries_from, machine_after}
 use Rattle.live_laws.specs.Cuts.{EntriesLaw, IsWhole, ItemsLaw, OutputLaw, PartsLaw, next_number}

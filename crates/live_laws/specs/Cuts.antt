@@ -6,7 +6,7 @@ use Rattle.script_lines.specs.Lines.{EndsLine, kept_lines, lines}
 use Rattle.script_lines.specs.Pieces.{Piece, outside, pieces_of, place_after}
 use Rattle.live_cmd.specs.declared.command.Item.{Item}
 use Rattle.live_cmd.specs.Items.{ItemsFrom}
-use Rattle.live_words.specs.declared.jobs.Job.{Job}
+use Rattle.live_words.specs.declared.jobs.ScriptJob.{ScriptJob}
 use Rattle.live_report.specs.Reports.{output_of}
 use Rattle.live_model.specs.Machine.{Machine}
 use Rattle.live_model.specs.Output.{entries_from, machine_after}
@@ -45,7 +45,7 @@ EntriesLaw = (env : Environment) (m : Machine) (is js : List Item) →
 
 -- What a job prints of a script begins with what it prints of the first part, and ends with what it prints of the second part, whose lines have
 -- the next numbers and whose items go on from the machine that the first part came to.
-abbrev pub OutputLaw : Job → Type 0
+abbrev pub OutputLaw : ScriptJob → Type 0
 OutputLaw j = (env : Environment) (m : Machine) (n : ℕ) (x y : List ℕ) (is ks : List Item) → IsWhole x → ItemsFrom n x is → ItemsFrom n (x ++ y) ks →
     (js : List Item) × ItemsFrom (next_number n x) y js
     × (output_of j ks (entries_from env m ks)

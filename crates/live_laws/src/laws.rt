@@ -3,7 +3,7 @@ ghost use Rattle.live_laws.specs.Batches.{AbortLaw, BatchChangeLaw, CollectsLaw,
 ghost use Rattle.live_laws.specs.Cuts.{EntriesLaw, ItemsLaw, OutputLaw, PartsLaw, WholeLaw};
 ghost use Rattle.live_laws.specs.Events.{EndsLaw, HappensLaw, HostsLaw};
 ghost use Rattle.live_laws.specs.Refusals.{ChangeLaw, RefusedFlushLaw, RefusedLaw};
-ghost use Rattle.live_words.specs.declared.jobs.Job.TheVariants as job;
+ghost use Rattle.live_words.specs.declared.jobs.ScriptJob.TheVariants as job;
 
 use live_cmd::{items_cut, one_list};
 

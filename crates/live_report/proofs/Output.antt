@@ -1,12 +1,15 @@
 -- What reports print yet, when items and what they tell are taken in.
-use Rattle.std.proofs.Common.{◌≡◌, ℕ, Bool, List, [], ◌∷◌, ◌++◌, flat_map, sym, ap, ◌∙◌, append_assoc}
+use Rattle.std.proofs.Common.{◌≡◌, ℕ, Bool, List, [], ◌∷◌, ◌++◌, flat_map, sym, ap, ◌∙◌, append_assoc, append-nil, refl}
 use Rattle.std.proofs.lemmas.List.Concat.{flat_map-append}
 use Rattle.bench_workload.specs.Summary.{summary_text}
 use Rattle.bench_workload.specs.declared.summary.Counts.{Counts}
 use Rattle.live_cmd.specs.declared.command.Item.{Item}
 use Rattle.live_entries.specs.declared.entry.Entry.{Entry}
 use Rattle.live_entries.specs.Printed.{printed}
-use Rattle.live_words.specs.declared.jobs.Job.TheVariants as job
+use Rattle.live_words.specs.declared.jobs.ScriptJob.TheVariants as job
+use Rattle.wire_model.specs.Notes.{Note, frame, frames}
+use Rattle.wire_model.specs.Wired.{Wires, notes_of, wired_from, wires_after}
+use Rattle.page_wire.specs.Telling.{wires_behind}
 use Rattle.live_report.specs.Counts.{added, counts_of, page_after}
 use Rattle.live_report.specs.Reports.{output_of, still}
 use Rattle.live_report.specs.declared.report.Report.TheVariants as report
@@ -42,3 +45,24 @@ lines_entries trace old new told e is es =
 pub summary_ended : (n : ℕ) (counts : Counts) (page old new : List ℕ) → new ≡ old ++ summary_text n counts page → new ≡ old ++ still (report.Summary n counts page) [] []
 unfolding still
 summary_ended n counts page old new e = e ∙ ap (λ t. old ++ summary_text n t page) (sym (added_none counts))
+
+-- ---- frames
+
+-- the notes of some entries, and of others behind them
+wired_more : (w : Wires) (es fs : List Entry) → wired_from w (es ++ fs) ≡ wired_from w es ++ wired_from (wires_behind w es) fs
+wired_more w [] fs = refl
+wired_more w (e ∷ es) fs =
+    ap (λ (ns : List Note). notes_of w e ++ ns) (wired_more (wires_after w e) es fs)
+    ∙ sym (append_assoc (notes_of w e) (wired_from (wires_after w e) es) (wired_from (wires_behind (wires_after w e) es) fs))
+
+pub frames_entries : (w after : Wires) (old new : List ℕ) (told : List Entry) → new ≡ old ++ frames (wired_from w told) → after ≡ wires_behind w told →
+    (is : List Item) (es : List Entry) → new ++ still (report.Frames after) is es ≡ old ++ still (report.Frames w) is (told ++ es)
+unfolding still
+frames_entries w after old new told e f is es =
+    ap (λ (l : List ℕ). l ++ frames (wired_from after es)) e ∙ (append_assoc old (frames (wired_from w told)) (frames (wired_from after es))
+    ∙ ap (λ (l : List ℕ). old ++ l) (ap (λ (v : Wires). frames (wired_from w told) ++ frames (wired_from v es)) f
+    ∙ (sym (flat_map-append frame (wired_from w told) (wired_from (wires_behind w told) es)) ∙ ap frames (sym (wired_more w told es)))))
+
+pub frames_ended : (w : Wires) (old : List ℕ) → old ≡ old ++ still (report.Frames w) [] []
+unfolding still
+frames_ended w old = sym (append-nil old)

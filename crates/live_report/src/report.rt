@@ -10,7 +10,8 @@ use crate::counters::{no_counts, page_after, with_entries, with_item};
 use bench_workload::{Counts, put_summary};
 use live_cmd::Item;
 use live_entries::{Entry, PageBytes, entry_line};
-use live_words::Job;
+use live_words::ScriptJob;
+use page_wire::ToldPages;
 use sig_base::NoMemory;
 use std::alloc::Global;
 
@@ -26,6 +27,10 @@ pub enum Report {
         rounds: u32,
         counts: Counts,
         page: PageBytes,
+    },
+    /// By the frames of what they tell of pages, as they come, behind what was told of pages before.
+    Frames {
+        told: ToldPages,
     },
 }
 
@@ -54,17 +59,20 @@ impl Report {
     ///
     /// `NoMemory` where it finds no room.
     #[tactic(auto, unfolding(crate::specs::Reports::still, crate::specs::Reports::counted))]
-    pub fn new(alloc: Global, job: Job) -> Result<Report, NoMemory>
+    pub fn new(alloc: Global, job: ScriptJob) -> Result<Report, NoMemory>
         ensures prints { IfOk result (λ r. (is : List AnItem) (es : List AnEntry) → still r is es ≡ output_of job is es) }
         ensures counted { IfOk result (λ r. counted r ≡ 0) }
     {
         match job {
-            Job::Run => Ok(Report::Lines { trace: false }),
-            Job::Trace => Ok(Report::Lines { trace: true }),
-            Job::Bench(rounds) => Ok(Report::Summary {
+            ScriptJob::Run => Ok(Report::Lines { trace: false }),
+            ScriptJob::Trace => Ok(Report::Lines { trace: true }),
+            ScriptJob::Bench(rounds) => Ok(Report::Summary {
                 rounds,
                 counts: no_counts(),
                 page: PageBytes::of(alloc, Vec::new(alloc))?,
+            }),
+            ScriptJob::Wire => Ok(Report::Frames {
+                told: ToldPages::new(alloc),
             }),
         }
     }
@@ -87,14 +95,15 @@ impl Report {
                 counts: with_item(counts, item),
                 page,
             },
+            Report::Frames { told } => Report::Frames { told },
         }
     }
 
-    /// The report with what an item told. Lines that are printed of it now are appended.
+    /// The report with what an item told. Lines or frames that are printed of it now are appended.
     ///
     /// # Errors
     ///
-    /// `NoMemory` where it finds no room; the report is gone, and a front of the lines may be appended.
+    /// `NoMemory` where it finds no room; the report is gone, and a front of them may be appended.
     #[tactic(auto, unfolding(crate::specs::Reports::still, crate::specs::Reports::counted))]
     pub fn with_entries(self, out: &mut Vec<u8>, entries: &[Entry]) -> Result<Report, NoMemory>
         requires { counted self < 2 ^ 127 }
@@ -119,6 +128,10 @@ impl Report {
                     page: page_after(page, entries)?,
                 })
             }
+            Report::Frames { mut told } => {
+                told.put_entries(out, entries)?;
+                Ok(Report::Frames { told })
+            }
         }
     }
 
@@ -141,6 +154,7 @@ impl Report {
                 put_summary(out, rounds, counts, page.as_slice())?;
                 Ok(())
             }
+            Report::Frames { .. } => Ok(()),
         }
     }
 }

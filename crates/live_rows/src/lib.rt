@@ -12,6 +12,8 @@ mod elements;
 #[cfg(test)]
 mod faults;
 #[cfg(test)]
+mod frames;
+#[cfg(test)]
 mod graph;
 #[cfg(test)]
 mod hosts;

@@ -34,6 +34,8 @@ fn refuses_other_words(rt: HostRuntime) -> Result<(), Fail> {
             "live bench 01",
             "live bench 100001",
             "live bench 4 --trace",
+            "live wire 4",
+            "live follow --trace",
         ],
     )
 }

@@ -1,5 +1,5 @@
 -- What is written and told so far, and what is printed yet of the rest of a script.
-use Rattle.std.proofs.Common.{◌≡◌, ℕ, List, [], ◌∷◌, ◌++◌, length, map, refl, sym, ◌∙◌, ap, subst, append_assoc}
+use Rattle.std.proofs.Common.{◌≡◌, ℕ, List, [], ◌∷◌, ◌++◌, length, map, refl, sym, ◌∙◌, ap, subst, append_assoc, arith, inr}
 use Rattle.std.specs.declared.option.Option.{Option}
 use Rattle.std.specs.declared.option.Option.TheVariants.{Some, None}
 use Rattle.std.specs.Option.{IfSome}
@@ -18,12 +18,18 @@ use Rattle.signal_laws.proofs.Shared.{all_append}
 use Rattle.live_cmd.specs.Items.{AreItems, IsItem, ItemsFrom}
 use Rattle.live_cmd.proofs.Shared.{some_items}
 use Rattle.live_words.specs.declared.jobs.Job.{Job}
+use Rattle.live_words.specs.declared.jobs.Job.TheVariants as asked
+use Rattle.live_words.specs.declared.jobs.ScriptJob.{ScriptJob}
 use Rattle.live_report.specs.declared.report.Report.{Report}
 use Rattle.live_report.specs.Reports.{output_of, still}
 use Rattle.live_model.specs.Machine.{Machine, empty, reached, step}
 use Rattle.live_model.specs.Output.{entries_from}
 use Rattle.page_laws.specs.LivePages.{LiveLaw}
+use Rattle.follow_laws.specs.Laws.{FollowLaw}
+use Rattle.page_follow.specs.Following.{IsFollowedInPart}
 use Rattle.live_run.specs.Jobs.{lent, lent_output, script_of, AreSized, Lives, TookIn}
+use Rattle.live_run.specs.Ends.{Ends, SinkSeen, SourceSeen}
+use Rattle.live_run.specs.declared.run.Status.TheVariants as status
 
 -- Whatever items the rest has, the script has some whose output is what is written, what is to be written, and what the report prints yet of
 -- the rest. And what holds of them where all that they tell is sized holds of them, if all that the rest tells is sized.
@@ -71,17 +77,18 @@ pub nothing_so_far : (env : Environment) (wanted : List Item → List ℕ) (live
 nothing_so_far env wanted lives held script r m same live = record { written = []; appended = Appends-nil held; whole = λ rest are. (rest, are, same rest, live rest are) }
 
 -- the same at the beginning, by what is lent
-pub first_so_far : {H : Type 0} (law : LiveLaw) (step_of : H → Meaning) (hosts : List H) → LendsRows (hosts_of (map step_of hosts)) → (slacks : List ℕ) (j : Job) (held : Option (List ℕ)) (script : List ℕ) (r : Report) (m : Machine) (out : List ℕ) →
+pub first_so_far : {H : Type 0} (law : LiveLaw) (follows : FollowLaw) (step_of : H → Meaning) (hosts : List H) → LendsRows (hosts_of (map step_of hosts)) → (slacks : List ℕ) (j : ScriptJob) (held : Option (List ℕ)) (script : List ℕ) (r : Report) (m : Machine) (out : List ℕ) →
     ((is : List Item) (es : List Entry) → still r is es ≡ output_of j is es) → m ≡ empty (length hosts) → out ≡ [] →
     SoFar (lent (map step_of hosts) slacks) (lent_output (map step_of hosts) slacks j) (Lives (map step_of hosts) slacks) held held script 1 script r m out
-first_so_far law step_of hosts lends slacks j held script r m out prints first none =
+first_so_far law follows step_of hosts lends slacks j held script r m out prints first none =
     let meanings : List Meaning = map step_of hosts in
     let env : Environment = lent meanings slacks in
     let many : m ≡ empty (length meanings) = first ∙ ap empty (sym (length-map hosts step_of)) in
     subst (λ (o : List ℕ). SoFar env (lent_output meanings slacks j) (Lives meanings slacks) held held script 1 script r m o) (sym none)
     (nothing_so_far env (lent_output meanings slacks j) (Lives meanings slacks) held script r m
     (λ rest. prints rest (entries_from env m rest) ∙ ap (λ n. output_of j rest (entries_from env n rest)) many)
-    (λ rest are z. law env (length meanings) script rest lends are (subst (λ (n : Machine). AreSized (entries_from env n rest)) many z)))
+    (λ rest are z. let sized = subst (λ (n : Machine). AreSized (entries_from env n rest)) many z in
+    record { live = law env (length meanings) script rest lends are sized; followed = follows env (length meanings) script rest lends are sized }))
 
 -- where there is nothing, there is none
 pub is_none : {X : Type 0} (o : Option X) → ((x : X) → o ≡ Some x → ⊥) → o ≡ None
@@ -93,13 +100,13 @@ pub of_any : {X : Type 0} (o : Option X) (P : X → Type 0) → ((x : X) → P x
 of_any None P h = tt
 of_any (Some x) P h = h x
 
-of_these : (script : Option (List ℕ)) (bytes : List ℕ) (P : List ℕ → Type 0) → IfSome script (λ s. s ≡ bytes) → P bytes → IfSome script P
+pub of_these : (script : Option (List ℕ)) (bytes : List ℕ) (P : List ℕ → Type 0) → IfSome script (λ s. s ≡ bytes) → P bytes → IfSome script P
 of_these None bytes P same h = tt
 of_these (Some s) bytes P same h = subst P (sym same) h
 
--- what holds of a job's script holds of the job's script
-pub of_script : (job : Option Job) (j : Job) (left : Option (List ℕ)) (bytes : List ℕ) (P : Job → List ℕ → Type 0) → Some j ≡ job → IfSome (script_of j left) (λ s. s ≡ bytes) → P j bytes → IfSome job (λ j. IfSome (script_of j left) (P j))
-of_script job j left bytes P is same h = subst (λ o. IfSome o (λ j. IfSome (script_of j left) (P j))) is (of_these (script_of j left) bytes (P j) same h)
+-- what holds of the job that was found holds of what the words ask for
+pub of_job : (wanted found : Option Job) (any j : Job) (P : Job → Type 0) → any ≡ j → found ≡ Some any → found ≡ wanted → P j → IfSome wanted P
+of_job wanted found any j P is some same h = subst (λ o. IfSome o P) (ap (λ i. Some i) (sym is) ∙ (sym some ∙ same)) h
 
 -- the script's items, of whose output a front is written
 abbrev pub FrontWritten : (List Item → List ℕ) → Option (List ℕ) → Option (List ℕ) → List ℕ → Type 0
@@ -141,11 +148,25 @@ no_front wanted script held =
     (is.0, is.1, ([], wanted is.0, refl, Appends-nil held))
 
 -- nothing is a front of the output of any script
-none_of_it : (wanted : List Item → List ℕ) (script held : Option (List ℕ)) → IfSome script (λ s. FrontWritten wanted held held s)
+pub none_of_it : (wanted : List Item → List ℕ) (script held : Option (List ℕ)) → IfSome script (λ s. FrontWritten wanted held held s)
 none_of_it wanted None held = tt
 none_of_it wanted (Some script) held = no_front wanted script held
 
--- nor of any job's
-pub nothing_written : (wanted : Job → List Item → List ℕ) (job : Option Job) (left held : Option (List ℕ)) → IfSome job (λ j. IfSome (script_of j left) (λ script. FrontWritten (wanted j) held held script))
-nothing_written wanted None left held = tt
-nothing_written wanted (Some j) left held = none_of_it (wanted j) (script_of j left) held
+-- nothing is followed yet, and nothing is a front of what is printed
+none_followed : (left held : Option (List ℕ)) → IfSome left (λ input. IsFollowedInPart input held held)
+none_followed None held = tt
+none_followed (Some input) held = record {
+  front = [];
+  more = input;
+  notes = [];
+  whole = refl;
+  spelt = inr ([], record { whole = refl; each = tt; partial = λ l. absurd (omega (arith, l)) });
+  written = ([], [], refl, Appends-nil held);
+}
+
+-- so it is with any job that is asked for, where memory runs out before it is begun
+pub nothing_written : (meanings : List Meaning) (slacks : List ℕ) (wanted : Option Job) (source : SourceSeen) (sink : SinkSeen) →
+    IfSome wanted (λ j. Ends meanings slacks j source source sink sink status.NoMemory)
+nothing_written meanings slacks None source sink = tt
+nothing_written meanings slacks (Some (asked.Script j)) source sink = none_of_it (lent_output meanings slacks j) (script_of j source.left) sink.held
+nothing_written meanings slacks (Some asked.Follow) source sink = none_followed source.left sink.held

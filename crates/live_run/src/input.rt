@@ -7,7 +7,7 @@ ghost use Rattle.live_run.specs.Jobs.{reads, script_of, ConsumesFront, GaveTooMu
 ghost use Rattle.live_run.specs.declared.input.ReadEnd.TheVariants.{Memory};
 
 use bench_workload::bench_script;
-use live_words::Job;
+use live_words::ScriptJob;
 use sig_base::{Failed, MOST_SCRIPT, NoMemory};
 use sig_io::Source;
 use std::alloc::{AllocError, Global};
@@ -76,7 +76,11 @@ pub fn read_all<S: Source>(alloc: Global, source: &mut S) -> Result<Vec<u8>, Rea
 ///
 /// It asks of its caller that a workload has at most `MOST_ROUNDS` rounds. Each ending has a clause of its own, and so have what a script
 /// may be and what it leaves of the source, since each is shown by something else: what is left, its faults, or the bytes that it gave.
-pub fn script_for<S: Source>(alloc: Global, job: Job, source: &mut S) -> Result<Vec<u8>, ReadEnd>
+pub fn script_for<S: Source>(
+    alloc: Global,
+    job: ScriptJob,
+    source: &mut S,
+) -> Result<Vec<u8>, ReadEnd>
     requires { HasFewRounds job }
     ensures script { IfOk result (λ bytes. IfSome (script_of job (S.left source.old)) (λ script. script ≡ bytes.items)) }
     ensures short { IfOk result (λ bytes. length bytes.items ≤ MOST_SCRIPT) }
@@ -88,7 +92,7 @@ pub fn script_for<S: Source>(alloc: Global, job: Job, source: &mut S) -> Result<
     ensures told { IsErrOf result ReadEnd.TooLong → IfSome (script_of job (S.left source.old)) (λ script. MOST_SCRIPT < length script) }
 {
     match job {
-        Job::Run | Job::Trace => read_all(alloc, source),
-        Job::Bench(rounds) => Ok(bench_script(alloc, rounds)?),
+        ScriptJob::Run | ScriptJob::Trace | ScriptJob::Wire => read_all(alloc, source),
+        ScriptJob::Bench(rounds) => Ok(bench_script(alloc, rounds)?),
     }
 }

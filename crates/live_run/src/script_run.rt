@@ -15,7 +15,7 @@ ghost use Rattle.live_run.specs.Jobs.{DidItem, DidNext};
 use live_cmd::{Item, next_item};
 use live_items::{Live, Running};
 use live_report::Report;
-use live_words::Job;
+use live_words::ScriptJob;
 use sig_base::NoMemory;
 use sig_host::{EqualsRule, HostFormula, Lent, Shelf};
 use std::alloc::Global;
@@ -35,7 +35,7 @@ impl ScriptRun {
     /// taken yet.
     pub(crate) fn new(
         alloc: Global,
-        job: Job,
+        job: ScriptJob,
         hosts: Vec<Box<dyn HostFormula>>,
         rules: Vec<EqualsRule>,
     ) -> Result<Box<ScriptRun>, NoMemory>

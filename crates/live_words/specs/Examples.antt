@@ -6,6 +6,7 @@ use Rattle.clap.specs.Words.{Text}
 use Rattle.clap.proofs.OnLiterals.{clap_on_literals}
 use Rattle.live_words.specs.declared.jobs.Job.{Job}
 use Rattle.live_words.specs.declared.jobs.Job.TheVariants as job
+use Rattle.live_words.specs.declared.jobs.ScriptJob.TheVariants as script
 use Rattle.live_words.specs.Jobs.{job_of}
 use Rattle.live_words.specs.Rounds.{rounds_of}
 
@@ -15,22 +16,30 @@ job_by words = job_of (codes "live" ∷ words)
 
 -- ---- jobs
 
-pub run_is : job_by (codes "run" ∷ []) ≡ Some job.Run
+pub run_is : job_by (codes "run" ∷ []) ≡ Some (job.Script script.Run)
 unfolding clap_on_literals
 run_is = refl
 
-pub trace_is : job_by (codes "run" ∷ codes "--trace" ∷ []) ≡ Some job.Trace
+pub trace_is : job_by (codes "run" ∷ codes "--trace" ∷ []) ≡ Some (job.Script script.Trace)
 unfolding clap_on_literals
 trace_is = refl
 
 -- the flag may stand in front
-pub trace_in_front : job_by (codes "--trace" ∷ codes "run" ∷ []) ≡ Some job.Trace
+pub trace_in_front : job_by (codes "--trace" ∷ codes "run" ∷ []) ≡ Some (job.Script script.Trace)
 unfolding clap_on_literals
 trace_in_front = refl
 
-pub bench_is : job_by (codes "bench" ∷ codes "12" ∷ []) ≡ Some (job.Bench 12)
+pub bench_is : job_by (codes "bench" ∷ codes "12" ∷ []) ≡ Some (job.Script (script.Bench 12))
 unfolding clap_on_literals rounds_of digits
 bench_is = refl
+
+pub wire_is : job_by (codes "wire" ∷ []) ≡ Some (job.Script script.Wire)
+unfolding clap_on_literals
+wire_is = refl
+
+pub follow_is : job_by (codes "follow" ∷ []) ≡ Some job.Follow
+unfolding clap_on_literals
+follow_is = refl
 
 -- ---- other words
 
@@ -63,6 +72,15 @@ bench_without_rounds = refl
 pub bench_with_trace : job_by (codes "bench" ∷ codes "12" ∷ codes "--trace" ∷ []) ≡ None
 unfolding clap_on_literals
 bench_with_trace = refl
+
+-- nor do frames, written or read, have rounds or a trace
+pub wire_with_trace : job_by (codes "wire" ∷ codes "--trace" ∷ []) ≡ None
+unfolding clap_on_literals
+wire_with_trace = refl
+
+pub follow_with_rounds : job_by (codes "follow" ∷ codes "12" ∷ []) ≡ None
+unfolding clap_on_literals
+follow_with_rounds = refl
 
 -- rounds from 1 to 100,000, with no zero in front
 pub no_rounds : rounds_of (codes "0") ≡ None

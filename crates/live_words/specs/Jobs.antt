@@ -6,6 +6,8 @@ use Rattle.clap.specs.Words.{App, Kinds, Row, Rule, Text, fault_of, first_of, ma
 use Rattle.clap.specs.declared.builder.ArgAction.TheVariants.{Set, SetTrue}
 use Rattle.live_words.specs.declared.jobs.Job.{Job}
 use Rattle.live_words.specs.declared.jobs.Job.TheVariants as job
+use Rattle.live_words.specs.declared.jobs.ScriptJob.{ScriptJob}
+use Rattle.live_words.specs.declared.jobs.ScriptJob.TheVariants as script
 use Rattle.live_words.specs.declared.jobs.TheConstants.{MOST_ROUNDS}
 use Rattle.live_words.specs.Rounds.{rounds_of}
 
@@ -31,19 +33,26 @@ is_text text value = option_map_or (λ v. bytes_eq v text) value false
 
 -- running the script takes no rounds
 abbrev pub run_job : Option Text → Bool → Option Job
-run_job None traced = Some (if traced then job.Trace else job.Run)
+run_job None traced = Some (job.Script (if traced then script.Trace else script.Run))
 run_job (Some rounds) traced = None
 
 -- the generated workload needs its rounds, and takes no trace
 abbrev pub bench_job : Option Text → Bool → Option Job
 bench_job None traced = None
-bench_job (Some rounds) traced = if traced then None else option_map job.Bench (rounds_of rounds)
+bench_job (Some rounds) traced = if traced then None else option_map (λ n. job.Script (script.Bench n)) (rounds_of rounds)
+
+-- a job that takes neither rounds nor a trace
+abbrev pub bare_job : Job → Option Text → Bool → Option Job
+bare_job j None traced = if traced then None else Some j
+bare_job j (Some rounds) traced = None
 
 -- the job that the values of JOB, ROUNDS and the flag name
 abbrev pub job_of_values : Option Text → Option Text → Option Text → Option Job
 job_of_values name rounds trace =
     if is_text (codes "run") name then run_job rounds (is_text (codes "true") trace)
-    else (if is_text (codes "bench") name then bench_job rounds (is_text (codes "true") trace) else None)
+    else (if is_text (codes "bench") name then bench_job rounds (is_text (codes "true") trace)
+    else (if is_text (codes "wire") name then bare_job (job.Script script.Wire) rounds (is_text (codes "true") trace)
+    else (if is_text (codes "follow") name then bare_job job.Follow rounds (is_text (codes "true") trace) else None)))
 
 -- the job that the matches of the command name
 abbrev pub job_of_rows : List Row → Option Job
@@ -59,7 +68,11 @@ abbrev pub job_of : List Text → Option Job
 job_of words = unless_refused (fault_of live words) (job_of_rows (matches_of live words))
 
 -- a workload has at most `MOST_ROUNDS` rounds
-abbrev pub HasFewRounds : Job → Type 0
-HasFewRounds job.Run = Unit {0}
-HasFewRounds job.Trace = Unit {0}
-HasFewRounds (job.Bench n) = n ≤ MOST_ROUNDS
+abbrev pub HasFewRounds : ScriptJob → Type 0
+HasFewRounds (script.Bench n) = n ≤ MOST_ROUNDS
+HasFewRounds _ = Unit {0}
+
+-- one that is asked for has at most so many
+abbrev pub AsksFewRounds : Job → Type 0
+AsksFewRounds (job.Script j) = HasFewRounds j
+AsksFewRounds job.Follow = Unit {0}

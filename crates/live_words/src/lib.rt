@@ -6,6 +6,6 @@ mod laws;
 mod rounds;
 mod words;
 
-pub use jobs::{Job, MOST_ROUNDS};
+pub use jobs::{Job, MOST_ROUNDS, ScriptJob};
 pub use laws::rounds_are_few;
 pub use words::read_job;

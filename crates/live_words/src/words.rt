@@ -1,10 +1,10 @@
 // The command line, as one simple command.
 ghost use Rattle.std.specs.Prelude.{◌≡◌, IfOk, map, option_map, string_bytes};
 ghost use Rattle.clap.specs.Words.{app_of};
-ghost use Rattle.live_words.specs.Jobs.{bench_job as job_of_bench, is_text, job_of, job_of_values, live, run_job as job_of_run};
+ghost use Rattle.live_words.specs.Jobs.{bare_job as job_of_bare, bench_job as job_of_bench, is_text, job_of, job_of_values, live, run_job as job_of_run};
 
-use crate::Job;
 use crate::rounds::read_rounds;
+use crate::{Job, ScriptJob};
 use clap::error::ErrorKind;
 use clap::{Arg, ArgAction, Command};
 use sig_base::NoMemory;
@@ -41,8 +41,8 @@ fn run_job(rounds: Option<&str>, traced: bool) -> Option<Job>
 {
     match rounds {
         Some(_) => None,
-        None if traced => Some(Job::Trace),
-        None => Some(Job::Run),
+        None if traced => Some(Job::Script(ScriptJob::Trace)),
+        None => Some(Job::Script(ScriptJob::Run)),
     }
 }
 
@@ -59,7 +59,20 @@ fn bench_job(rounds: Option<&str>, traced: bool) -> Option<Job>
     let Some(rounds) = read_rounds(text) else {
         return None;
     };
-    Some(Job::Bench(rounds))
+    Some(Job::Script(ScriptJob::Bench(rounds)))
+}
+
+// A job that takes neither rounds nor a trace.
+fn bare_job(job: Job, rounds: Option<&str>, traced: bool) -> Option<Job>
+    ensures { result ≡ job_of_bare job (option_map (λ v. v.now) rounds.entry) traced }
+{
+    let None = rounds else {
+        return None;
+    };
+    if traced {
+        return None;
+    }
+    Some(job)
 }
 
 // The job that the values of JOB, ROUNDS and the flag name.
@@ -73,11 +86,17 @@ fn job_from(name: Option<&str>, rounds: Option<&str>, trace: Option<&str>) -> Op
     if is_text("bench", name) {
         return bench_job(rounds, traced);
     }
+    if is_text("wire", name) {
+        return bare_job(Job::Script(ScriptJob::Wire), rounds, traced);
+    }
+    if is_text("follow", name) {
+        return bare_job(Job::Follow, rounds, traced);
+    }
     None
 }
 
-/// The job that the words ask for, of which the first is the program's name: `run`, perhaps with `--trace`, or `bench` and a number of
-/// rounds from 1 to `MOST_ROUNDS`. `None` exactly where the command refuses the words, a call for help included, or where what it takes
+/// The job that the words ask for, of which the first is the program's name: `run`, perhaps with `--trace`, `bench` and a number of
+/// rounds from 1 to `MOST_ROUNDS`, `wire` or `follow`. `None` exactly where the command refuses the words, a call for help included, or where what it takes
 /// names no job.
 pub fn read_job(alloc: Global, words: &[String]) -> Result<Option<Job>, NoMemory>
     ensures { IfOk result (λ job. job ≡ job_of (map string_bytes words.now)) }

@@ -1,14 +1,15 @@
 // Frames of notes: written, read in pieces, and followed.
 
+use live_entries::{Entry, Label, PageBytes, PageOp};
 use page_ops::read_op;
-use page_wire::{Decoder, Note, WireFault, put_frame};
+use page_wire::{Decoder, Note, ToldPages, WireFault, put_frame, put_op_frame};
 use sig_base::{Name, NoMemory};
 use std::alloc::Global;
 use std::process::Abort;
 use std::test::Fail;
 
 // A page of one text is mounted, made and shown: the frames of a mount, of an operation, and of a page that is ready.
-const STREAM: &[u8] =
+pub(crate) const STREAM: &[u8] =
     b"\0\0\0\0\0\0\0\x03\x01\x01p\0\0\0\0\0\0\0\x15\x02\x01pinsert 0 0 (1 \"1\")\0\0\0\0\0\0\0\x03\x03\x01p";
 
 fn made(alloc: Global, name: &str, line: &str) -> Result<Note, Fail> {
@@ -24,6 +25,38 @@ fn notes_are_written(rt: HostRuntime) -> Result<(), Fail> {
     put_frame(&mut out, &made(alloc, "p", "insert 0 0 (1 \"1\")")?)?;
     put_frame(&mut out, &Note::Ready(Name::new(alloc, "p")?))?;
     assert!(rt; out.as_slice() == STREAM);
+    Ok(())
+}
+
+#[test]
+fn operations_are_written(rt: HostRuntime) -> Result<(), Fail> {
+    let alloc = rt.alloc();
+    let mut out = Vec::new(alloc);
+    let op = read_op(alloc, b"insert 0 0 (1 \"1\")")?;
+    put_op_frame(&mut out, &Name::new(alloc, "p")?, &op)?;
+    assert!(rt; out.as_slice() == &STREAM[11..40]);
+    Ok(())
+}
+
+#[test]
+fn what_entries_tell_is_written(rt: HostRuntime) -> Result<(), Fail> {
+    let alloc = rt.alloc();
+    let name = Name::new(alloc, "p")?;
+    let op = read_op(alloc, b"insert 0 0 (1 \"1\")")?;
+    let html = Vec::from_slice(alloc, b"1")?;
+    let mut entries = Vec::new(alloc);
+    entries.push(Entry::Gone(Label::named(alloc, name.copy()?)))?;
+    entries.push(Entry::Op(name.copy()?, PageOp::of(op)))?;
+    entries.push(Entry::Page(name.copy()?, PageBytes::of(alloc, html)?))?;
+    let mut told = ToldPages::new(alloc);
+    let mut out = Vec::new(alloc);
+    told.put_entries(&mut out, &entries)?;
+    assert!(rt; out.as_slice() == STREAM);
+    // the page is there now: its end is told, and its mount isn't told again
+    told.put_entries(&mut out, &entries)?;
+    let gone = b"\0\0\0\0\0\0\0\x03\x04\x01p".as_slice();
+    assert!(rt; &out[STREAM.len()..STREAM.len() + 11] == gone);
+    assert!(rt; &out[STREAM.len() + 11..] == &STREAM[11..]);
     Ok(())
 }
 

@@ -1,28 +1,59 @@
-use Rattle.std.proofs.Common.{◌∙◌, inr, map, refl, string_bytes, sym}
+use Rattle.std.proofs.Common.{map, refl, string_bytes, sym, ◌∙◌}
+use Rattle.std.proofs.lemmas.Bool.{true≢false}
 use Rattle.live_words.specs.Jobs.{job_of}
-use Rattle.live_run.specs.Jobs.{script_of}
-use Rattle.live_run.proofs.Output.{nothing_written, of_any, of_script}
+use Rattle.live_words.specs.declared.jobs.Job.TheVariants as asked
+use Rattle.live_run.proofs.Output.{nothing_written, of_any, of_job}
 use Rattle.live_run.proofs.run.run_live.Goals as goal
 
-pub returns-in-Err-Memory-clause-front : goal.returns-in-Err-Memory-clause-front
-returns-in-Err-Memory-clause-front g c = λ _. nothing_written _ _ _ _
+-- ---- a script
 
-pub returns-in-Err-clause-front : goal.returns-in-Err-clause-front
-returns-in-Err-clause-front g c = λ _. nothing_written _ _ _ _
+pub returns-in-Ok-Some-Script-clause-ends : goal.returns-in-Ok-Some-Script-clause-ends
+returns-in-Ok-Some-Script-clause-ends g c =
+    of_job (job_of (map string_bytes c.args.words.now)) _ _ (asked.Script c.in-Ok-Some-Script.job) _ c.in-Ok-Some-Script.field-0-0-is c.in-Ok-Some-Script.field-0-is c.in-Ok-Some-Script.ensures
+    c.run_job.ensures.ends
+
+pub returns-in-Ok-Some-Script-clause-wrong_words : goal.returns-in-Ok-Some-Script-clause-wrong_words
+returns-in-Ok-Some-Script-clause-wrong_words g c =
+    λ none. let some = sym c.in-Ok-Some-Script.field-0-is ∙ c.in-Ok-Some-Script.ensures in absurd (cc)
+
+pub returns-in-Ok-Some-Script-clause-generated : goal.returns-in-Ok-Some-Script-clause-generated
+returns-in-Ok-Some-Script-clause-generated g c =
+    of_job (job_of (map string_bytes c.args.words.now)) _ _ (asked.Script c.in-Ok-Some-Script.job) _ c.in-Ok-Some-Script.field-0-0-is c.in-Ok-Some-Script.field-0-is c.in-Ok-Some-Script.ensures
+    c.run_job.ensures.generated
+
+pub returns-in-Ok-Some-Script-clause-nothing : goal.returns-in-Ok-Some-Script-clause-nothing
+returns-in-Ok-Some-Script-clause-nothing g c =
+    of_job (job_of (map string_bytes c.args.words.now)) _ _ (asked.Script c.in-Ok-Some-Script.job) _ c.in-Ok-Some-Script.field-0-0-is c.in-Ok-Some-Script.field-0-is c.in-Ok-Some-Script.ensures
+    (λ _. c.run_job.ensures.nothing)
+
+-- ---- frames
+
+pub returns-in-Ok-Some-Follow-clause-ends : goal.returns-in-Ok-Some-Follow-clause-ends
+returns-in-Ok-Some-Follow-clause-ends g c =
+    of_job (job_of (map string_bytes c.args.words.now)) _ _ asked.Follow _ c.in-Ok-Some-Follow.field-0-0-is c.in-Ok-Some-Follow.field-0-is c.in-Ok-Some-Follow.ensures
+    c.follow_frames.ensures
+
+pub returns-in-Ok-Some-Follow-clause-wrong_words : goal.returns-in-Ok-Some-Follow-clause-wrong_words
+returns-in-Ok-Some-Follow-clause-wrong_words g c =
+    λ none. let some = sym c.in-Ok-Some-Follow.field-0-is ∙ c.in-Ok-Some-Follow.ensures in absurd (cc)
+
+pub returns-in-Ok-Some-Follow-clause-generated : goal.returns-in-Ok-Some-Follow-clause-generated
+returns-in-Ok-Some-Follow-clause-generated g c =
+    of_job (job_of (map string_bytes c.args.words.now)) _ _ asked.Follow _ c.in-Ok-Some-Follow.field-0-0-is c.in-Ok-Some-Follow.field-0-is c.in-Ok-Some-Follow.ensures
+    (λ e. absurd (true≢false e))
+
+pub returns-in-Ok-Some-Follow-clause-nothing : goal.returns-in-Ok-Some-Follow-clause-nothing
+returns-in-Ok-Some-Follow-clause-nothing g c =
+    of_job (job_of (map string_bytes c.args.words.now)) _ _ asked.Follow _ c.in-Ok-Some-Follow.field-0-0-is c.in-Ok-Some-Follow.field-0-is c.in-Ok-Some-Follow.ensures
+    (λ e. absurd (true≢false (sym e)))
+
+-- ---- out of memory
+
+pub returns-in-Err-clause-ends : goal.returns-in-Err-clause-ends
+returns-in-Err-clause-ends g c = nothing_written _ _ (job_of (map string_bytes c.args.words.now)) _ _
 
 pub returns-in-Err-clause-generated : goal.returns-in-Err-clause-generated
 returns-in-Err-clause-generated g c = of_any (job_of (map string_bytes c.args.words.now)) _ (λ _ _. refl)
 
-pub returns-in-Err-clause-complete_generated : goal.returns-in-Err-clause-complete_generated
-returns-in-Err-clause-complete_generated g c = of_any (job_of (map string_bytes c.args.words.now)) _ (λ _ _ _. inr refl)
-
-pub returns-in-Err-clause-complete_told : goal.returns-in-Err-clause-complete_told
-returns-in-Err-clause-complete_told g c = of_any (job_of (map string_bytes c.args.words.now)) _ (λ j _ _. of_any (script_of j (g.S.Source.left c.args.source.now)) _ (λ _ _. inr refl))
-
-pub returns-in-Err-clause-too_long_exact : goal.returns-in-Err-clause-too_long_exact
-returns-in-Err-clause-too_long_exact g c = of_any (job_of (map string_bytes c.args.words.now)) _ (λ j _. of_any (script_of j (g.S.Source.left c.args.source.now)) _ (λ _ _. inr refl))
-
-pub returns-in-Ok-run_script-clause-output : goal.returns-in-Ok-run_script-clause-output
-returns-in-Ok-run_script-clause-output g c =
-    let done = rw c.deref.ensures.value at c.in-Ok-run_script.ensures.done in
-    λ _. of_script (job_of (map string_bytes c.args.words.now)) c.in-Ok-Some.job (g.S.Source.left c.args.source.now) c.in-Ok.script.items _ (sym c.in-Ok-Some.field-0-is ∙ c.in-Ok-Some.ensures) c.in-Ok.ensures.script done
+pub returns-in-Err-clause-nothing : goal.returns-in-Err-clause-nothing
+returns-in-Err-clause-nothing g c = of_any (job_of (map string_bytes c.args.words.now)) _ (λ _ _ _. refl)

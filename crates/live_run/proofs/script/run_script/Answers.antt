@@ -3,7 +3,7 @@ use Rattle.sig_host.specs.Hosts.{hosts_of}
 use Rattle.std.proofs.KnownBytes.{Appends-nil}
 use Rattle.std.proofs.lemmas.Result.{err_from_is_err_and}
 use Rattle.live_run.proofs.Output.{HandedOn, all_written, first_so_far, front_ended, front_more, front_so_far, is_none, next_so_far, no_front}
-use Rattle.live_run.proofs.run.run_script.Goals as goal
+use Rattle.live_run.proofs.script.run_script.Goals as goal
 
 pub do_next-requires-clause-kept : goal.do_next-requires-clause-kept
 do_next-requires-clause-kept g c = rw c.deref_mut.ensures.value c.loop-run.invariant.kept
@@ -31,7 +31,7 @@ pub loop-run-init : goal.loop-run-init
 loop-run-init g c =
     let e = c.in_ok-run.ensures in
     record {
-      told = first_so_far c.live_law.ensures _ _ (rw c.deref.ensures.value at c.lends_rows.ensures) _ _ _ _ _ _ _ e.prints e.machine e.nothing;
+      told = first_so_far c.live_law.ensures c.follow_law.ensures _ _ (rw c.deref.ensures.value at c.lends_rows.ensures) _ _ _ _ _ _ _ e.prints e.machine e.nothing;
       kept = e.kept;
       counted = λ _. e.counted;
       slacks = e.slacks;

@@ -6,7 +6,7 @@ use Rattle.live_core.specs.Views.{plain_of}
 use Rattle.live_report.specs.Reports as reports
 use Rattle.live_run.specs.Jobs.{lent, lent_output, Lives}
 use Rattle.live_run.proofs.Output.{SoFar}
-use Rattle.live_run.proofs.run.run_script.Given as goal
+use Rattle.live_run.proofs.script.run_script.Given as goal
 
 abbrev pub invariant-loop-run : goal.invariant-loop-run
 invariant-loop-run g l = record {
