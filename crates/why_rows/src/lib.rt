@@ -1,0 +1,5 @@
+//! Worked journals: the chains that they tell, and which links the checker takes.
+#![tactic(auto)]
+
+#[cfg(test)]
+mod chains;
