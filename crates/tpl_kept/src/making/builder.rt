@@ -32,7 +32,9 @@ pub struct Made {
     pub failed: bool,
 }
 
-// What is heard of the first of some lines, in the row where they stand, and whether it met a fault; where it is tried, both of its parts were made.
+// What is heard of the first of some lines, in the row where they stand, and whether it met a fault; where it is tried, both of its parts were made,
+// and it is told whether the second met one. What is heard and the fault have a clause each, as the first speaks of all that was made; the others are
+// what each hearing asks for and gives back of graph and shelf, and what it did.
 fn hear_first(
     alloc: Global,
     graph: &mut Graph,
@@ -90,7 +92,8 @@ fn hear_first(
 }
 
 // The first of some lines, before anything is made inside it and behind it. Each field of what it gives has a clause of its own, as they are filled
-// one by one; the others are what each hearing asks for and gives back of graph and shelf, and what it did.
+// one by one; the others are what is told of the parts of what is tried, and what each hearing asks for and gives back of graph and shelf, and what
+// it did.
 fn begin(
     alloc: Global,
     graph: &mut Graph,
@@ -133,7 +136,9 @@ fn begin(
 }
 
 // Puts what is kept of lines in each of some rows behind what was kept, up to the first row where one of them meets a fault where they end at
-// one; whether one of them met a fault. Both parts of what is tried are made before its line is put together.
+// one; whether one of them met a fault. Both parts of what is tried are made before its line is put together. What is put and whether a fault was met
+// have a clause each, as only the first speaks of the lines; the others are what each hearing asks for and gives back of graph and shelf, and that
+// the rows are rows.
 fn put_each(
     alloc: Global,
     graph: &mut Graph,

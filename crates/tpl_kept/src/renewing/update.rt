@@ -95,6 +95,7 @@ fn stays(
 }
 
 // What is kept of both parts of what is tried now, and whether all their names are as before: then it stays, and otherwise it is made anew.
+// Its clauses are those of a formula that is heard again, told of both parts.
 fn attempt_again(
     alloc: Global,
     graph: &mut Graph,
