@@ -87,6 +87,7 @@ fn all_stay(
         &mut before,
         attributes,
         &links,
+        false,
         None,
         &mut s.notes,
     )?;
@@ -106,12 +107,18 @@ fn all_stay(
     Ok(same && is_only(&next, wanted))
 }
 
+// An attribute of the two names under an operator.
+fn attribute(alloc: Global, name: &str, operator: BinOp) -> Result<(Text, Formula), Fail> {
+    let name = Text::new(alloc, name)?;
+    let formula = of_names(alloc, operator, 0, 1)?;
+    Ok((name, formula))
+}
+
 // One attribute, of the sum of the two names.
 fn title(alloc: Global) -> Result<Vec<(Text, Formula)>, Fail> {
-    let name = Text::new(alloc, "title")?;
-    let formula = of_names(alloc, BinOp::Add, 0, 1)?;
+    let only = attribute(alloc, "title", BinOp::Add)?;
     let mut attributes = Vec::new(alloc);
-    attributes.push((name, formula))?;
+    attributes.push(only)?;
     Ok(attributes)
 }
 
@@ -122,5 +129,51 @@ fn attributes_stay_while_their_names_have_their_values(rt: HostRuntime) -> Resul
     let attributes = title(alloc)?;
     let same = all_stay(alloc, &mut s, &attributes, 3)?;
     assert!(rt; same);
+    Ok(())
+}
+
+// How many attributes are heard, to their end or up to the first that meets a fault.
+fn count_heard(
+    alloc: Global,
+    s: &mut Scene,
+    attributes: &[(Text, Formula)],
+    ends: bool,
+) -> Result<usize, NoMemory>
+    requires can { CanSettle (scene s.old.graph (⟦<Shelf as Lent>⟧.asked s.old.shelf) s.old.notes.items) }
+    requires counted { ⟦<Shelf as Lent>⟧.counted s.old.shelf }
+{
+    let links = [s.first, s.second];
+    let mut heard = Outcomes::new(alloc);
+    let all = listen_all(
+        alloc,
+        &mut s.graph,
+        &mut s.shelf,
+        &mut heard,
+        attributes,
+        &links,
+        ends,
+        None,
+        &mut s.notes,
+    )?;
+    Ok(all.len())
+}
+
+// How many of three attributes are heard, of which the second meets a fault.
+fn heard_of_three(alloc: Global, ends: bool) -> Result<usize, Fail> {
+    let mut s = Scene::of_numbers(alloc, 1, 0)?;
+    let mut attributes = title(alloc)?;
+    let share = attribute(alloc, "share", BinOp::Div)?;
+    attributes.push(share)?;
+    let last = attribute(alloc, "last", BinOp::Sub)?;
+    attributes.push(last)?;
+    let count = count_heard(alloc, &mut s, &attributes, ends)?;
+    Ok(count)
+}
+
+#[test]
+fn attributes_end_at_a_fault_where_lines_do(rt: HostRuntime) -> Result<(), Fail> {
+    let alloc = rt.alloc();
+    assert!(rt; heard_of_three(alloc, true)? == 2);
+    assert!(rt; heard_of_three(alloc, false)? == 3);
     Ok(())
 }
