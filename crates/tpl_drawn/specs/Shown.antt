@@ -1,15 +1,8 @@
 -- What is kept of the first of some lines, and what it shows.
-use Rattle.std.specs.Prelude.{◌≡◌, ◌≤◌, Bool, true, false, not, List, [], length, take}
-use Rattle.sig_base.specs.Tables.{Table}
-use Rattle.sig_base.specs.declared.value.Value.TheVariants as value
-use Rattle.sig_base.specs.declared.value.Outcome.{Outcome}
-use Rattle.sig_base.specs.declared.value.Outcome.TheVariants.{Good}
-use Rattle.page_model.specs.Forest.{Forest, none, node}
-use Rattle.page_model.specs.Labels.{Look, Text}
-use Rattle.tpl_model.specs.KeptLines.Kept.{rows_from}
-use Rattle.tpl_model.specs.declared.memo.PageMemo as held
+use Rattle.std.specs.Prelude.{Bool, true, false, not, List, []}
+use Rattle.page_model.specs.Forest.{Forest, none}
+use Rattle.page_model.specs.Labels.{Look}
 use Rattle.tpl_model.specs.Lines.{Block, empty, text, tag, choice, each, attempt}
-use Rattle.tpl_model.specs.Shapes.{node_text}
 use Rattle.tpl_scratch.specs.Pages.{shows_branch}
 use Rattle.tpl_model.specs.PageUpdates.PageMemos.{Heard, PageMemo, unread, blank, line, element, branch, loop, either}
 
@@ -78,11 +71,6 @@ abbrev pub attributes_of : PageMemo → List Heard
 attributes_of (element hs i r) = hs
 attributes_of m = []
 
--- a text
-abbrev pub text_of : PageMemo → Forest Look
-text_of (line h r) = node 0 (Text (node_text h.outcome)) none none
-text_of m = none
-
 -- whether a branch or a part is shown, the first or the other
 abbrev pub shows : PageMemo → Bool → Bool
 shows (branch h i r) first = shows_branch h.outcome first
@@ -93,17 +81,6 @@ shows m first = false
 abbrev pub rows_of : PageMemo → PageMemo
 rows_of (loop h i r) = i
 rows_of m = blank
-
--- what is kept for the rows that an outcome is, one after the other, where there is no more than there are rows
-abbrev pub among_rows : Outcome → List held.PageMemo → List held.PageMemo
-among_rows (Good (value.Rows t)) ms = take (length t.rows) ms
-among_rows _ ms = []
-
--- it is kept for each row, one after the other
-pub record AreRows (m : PageMemo) (memos : List PageMemo) : Type 0 where
-  pub table : Table
-  pub few : length memos ≤ length table.rows
-  pub rows : rows_of m ≡ rows_from table 0 table.rows memos
 
 -- nodes, where they are shown
 abbrev pub where_shown : Bool → Forest Look → Forest Look

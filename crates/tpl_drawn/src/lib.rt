@@ -9,5 +9,4 @@ mod shown;
 
 pub use comparing::{Compared, compare_law, compared};
 pub use marks::{Numbers, PageNodes, put_addresses, put_coming};
-pub use nodes::put_nodes;
 pub use shown::put_shown;

@@ -1,15 +1,12 @@
 // What is kept of the first of some lines, of whatever kind it is.
-ghost use Rattle.std.specs.Prelude.{◌≡◌, map, OnOk};
+ghost use Rattle.std.specs.Prelude.{◌≡◌, map};
 ghost use Rattle.tpl_blocks.specs.Blocks.{block};
 ghost use Rattle.tpl_model.specs.KeptLines.Kept.{heard_of, kept};
-ghost use Rattle.tpl_scratch.specs.Pages.{nodes_of, with_nodes};
-ghost use Rattle.tpl_drawn.specs.Shown.{among_rows, attributes_of, fits, inside_of, is_branch, is_either, is_element, is_line, is_loop, later_of, part_of, shows, shows_part, text_of, AreRows};
+ghost use Rattle.tpl_drawn.specs.Shown.{attributes_of, fits, inside_of, is_branch, is_either, is_element, is_line, is_loop, later_of, part_of, shows, shows_part};
 
-use sig_base::{NoMemory, Outcome, Value};
-use std::alloc::Global;
 use tpl_blocks::Block;
 use tpl_model::{Heard, PageMemo};
-use tpl_scratch::{Nodes, node_text, shows_branch};
+use tpl_scratch::shows_branch;
 
 fn is_line(memo: &PageMemo) -> bool
     ensures { result ≡ is_line (kept memo.now) }
@@ -182,60 +179,5 @@ pub(crate) fn shows(memo: &PageMemo, first: bool) -> bool
         PageMemo::Element(_, _, _) => false,
         PageMemo::Loop(_, _, _) => false,
         PageMemo::Either(_, second, _) => shows_part(second, first),
-    }
-}
-
-// What is kept for the rows that an outcome is, where there is no more than there are rows.
-fn among_rows<'a>(outcome: &Outcome, memos: &'a [PageMemo]) -> &'a [PageMemo]
-    ensures { result.now ≡ among_rows outcome.now memos.now }
-{
-    match outcome {
-        Outcome::Good(Value::Rows(rows)) => {
-            if memos.len() <= rows.len() {
-                memos
-            } else {
-                &memos[..rows.len()]
-            }
-        }
-        _ => &[],
-    }
-}
-
-/// What is kept for the rows of a loop.
-pub fn rows_of(memo: &PageMemo) -> &[PageMemo]
-    ensures { AreRows (kept memo.now) (map kept result.now) }
-{
-    match memo {
-        PageMemo::Loop(rows, memos, _) => among_rows(&rows.outcome, memos),
-        PageMemo::Unread => &[],
-        PageMemo::Blank => &[],
-        PageMemo::Line(_, _) => &[],
-        PageMemo::Element(_, _, _) => &[],
-        PageMemo::Branch(_, _, _) => &[],
-        PageMemo::Either(_, _, _) => &[],
-    }
-}
-
-/// Appends a text, by what is kept of it.
-///
-/// # Errors
-///
-/// `NoMemory` alone.
-pub fn put_text(alloc: Global, memo: &PageMemo, out: &mut Nodes) -> Result<(), NoMemory>
-    ensures { OnOk result (nodes_of out.new ≡ with_nodes (nodes_of out.old) (text_of (kept memo.now))) }
-{
-    match memo {
-        PageMemo::Line(heard, _) => {
-            let outcome = heard.outcome.copy()?;
-            let text = node_text(alloc, outcome)?;
-            out.put_text(text)?;
-            Ok(())
-        }
-        PageMemo::Unread => Ok(()),
-        PageMemo::Blank => Ok(()),
-        PageMemo::Element(_, _, _) => Ok(()),
-        PageMemo::Branch(_, _, _) => Ok(()),
-        PageMemo::Loop(_, _, _) => Ok(()),
-        PageMemo::Either(_, _, _) => Ok(()),
     }
 }
