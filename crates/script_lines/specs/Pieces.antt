@@ -9,7 +9,7 @@ has_word w l = bytes_eq (first_word l) w
 
 -- whether a line outside a block begins one
 unfoldable pub begins_block : List ℕ → Bool
-begins_block l = has_word (codes "effect") l || has_word (codes "template") l
+begins_block l = has_word (codes "effect") l || has_word (codes "template") l || has_word (codes "on") l
 
 -- whether a line of a block opens a level
 unfoldable pub opens : List ℕ → Bool

@@ -75,9 +75,9 @@ fn rest_of_block<'a>(
 /// An LF ends a line, and a CR just before it is no part of the line. A line of nothing but blanks, and one that begins
 /// with `#` behind blanks, is passed over, in a block too: it counts for line numbers and for nothing else.
 ///
-/// A command is one line, or a block: from a line whose first word is `effect` or `template` to the `end` that closes
-/// it, where `effect`, `when`, `tag`, `if`, `each` and `try` open a level and `end` closes one, whatever the rest of the
-/// line says. A block that the script's end cuts off isn't `ended`. `NoMemory` where the lines find no room.
+/// A command is one line, or a block: from a line whose first word is `effect`, `template` or `on` to the `end` that
+/// closes it, where `effect`, `when`, `tag`, `if`, `each` and `try` open a level and `end` closes one, whatever the rest of
+/// the line says. A block that the script's end cuts off isn't `ended`. `NoMemory` where the lines find no room.
 pub fn next_piece(
     alloc: Global,
     script: &[u8],

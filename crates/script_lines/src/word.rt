@@ -59,7 +59,7 @@ pub(crate) fn begins_block(line: &[u8]) -> bool
     ensures { result ≡ begins_block line.now }
 {
     let word = first_word(line);
-    word == b"effect".as_slice() || word == b"template".as_slice()
+    word == b"effect".as_slice() || word == b"template".as_slice() || word == b"on".as_slice()
 }
 
 // Whether a line inside a block opens a level.
