@@ -1,5 +1,6 @@
 pub mod Marks
 pub mod Addresses
+pub mod Lines
 pub mod Shown
 pub mod Heads
 pub mod Walks

@@ -39,7 +39,7 @@ on_tree p a q o =
     ∙ (on_shown (number_of p a) (numbered (number_of p) (page_shape p)) ∙ (on_num (number_of p) a (page_shape p) (λ b h e. q.distinct a b o h e) ∙ o))
 
 -- the node of a number
-on_page : (p : NumberedPage) (n : ℕ) → IsPage p → on n (tree_of p) ≡ true → (a : ℕ) × (on a (page_shape p) ≡ true) × (number_of p a ≡ n)
+pub on_page : (p : NumberedPage) (n : ℕ) → IsPage p → on n (tree_of p) ≡ true → (a : ℕ) × (on a (page_shape p) ≡ true) × (number_of p a ≡ n)
 on_page p n q h =
     from_num (number_of p) n (page_shape p)
     (sym (on_shown n (numbered (number_of p) (page_shape p))) ∙ (ap (λ z. on n (shown z)) (sym (by_number_is p q.once)) ∙ h))
@@ -186,7 +186,7 @@ noted_so p shape coming number h x =
     ∙ ap (λ z. cond (listed a z) (Some (p.next + place_in a z)) (number x)) h.order
 
 -- a new address that is on the next page
-listed_new : (p : NumberedPage) (shape : Forest Look) (a : ℕ) → IsPage p → IsShape shape → on a (page_shape p) ≡ false → on a shape ≡ true →
+pub listed_new : (p : NumberedPage) (shape : Forest Look) (a : ℕ) → IsPage p → IsShape shape → on a (page_shape p) ≡ false → on a shape ≡ true →
     listed a (new_order p shape) ≡ true
 listed_new p shape a q s e o =
     let u = unused_number p shape a e o in

@@ -10,6 +10,7 @@ mod Survivors
 mod Operated
 mod Planned
 mod Followed
+mod Lined
 mod Carried
 mod Reheard
 mod Renewed

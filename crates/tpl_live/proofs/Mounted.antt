@@ -148,6 +148,7 @@ leads lines links source m below t g memo nodes_are =
       next = 1 + length (keys (nodes None (block_of lines) m));
       tree = node 0 Root below none;
       number = λ a. None;
+      line = λ n. None;
     } in
     let law = mount_law lines links source t g in
     let x = put_together lines links source s below law t g refl memo nodes_are refl refl in

@@ -29,7 +29,7 @@ use Rattle.tpl_model.specs.PageUpdates.Updates.{memo_on, memo_shape, next_page, 
 use Rattle.tpl_hearing.specs.Heard.{AreFromScratch, HaveRows, HasRows, Hears, Outcomes, Scene, heard_of}
 use Rattle.tpl_hearing.proofs.Shared.{heard_scratch}
 use Rattle.tpl_model.specs.KeptLines.Memos.{Makes, lines_memo}
-use Rattle.tpl_live.specs.Pages.{AreInserted, AreKnown, Standing, Stands, below_in, inserts, lines_shape, outcome_in, page_in, shown_in}
+use Rattle.tpl_live.specs.Pages.{AreInserted, AreKnown, AreLined, Standing, Stands, below_in, inserts, lines_shape, outcome_in, page_in, shown_in}
 use Rattle.tpl_live.proofs.Mounted.{MountedAs, leads, mounted}
 use Rattle.tpl_live.proofs.Sourced.{made_on, made_right, names_heard}
 
@@ -116,13 +116,17 @@ stands_as lines links s below own made e next tree =
 abbrev pub KnowsThere : Standing → Type 0
 KnowsThere s = (p : NumberedPage) → IsPage p → page_shape p ≡ lines_shape s.lines s.memo → s.tree ≡ tree_of p → AreKnown p s.tree s.number
 
+-- and of their lines
+abbrev pub LinedThere : Standing → Type 0
+LinedThere s = (p : NumberedPage) → IsPage p → page_shape p ≡ lines_shape s.lines s.memo → s.tree ≡ tree_of p → AreLined p s.line
+
 shape_of : (lines : List Line) (links : List ℕ) (s : Standing) (below : Forest Kind) → s.lines ≡ block_of lines →
     MountedAs lines links (outcome_in s.heard) s below → page_shape (page_in s) ≡ lines_shape s.lines s.memo
 shape_of lines links s below own x = x.keeps.shape ∙ sym (ap (λ z. lines_shape z s.memo) own)
 
 pub stands : (lines : List Line) (links : List ℕ) (s : Standing) → s.lines ≡ block_of lines → s.links ≡ links → AreMade lines links s.heard s.memo →
-    s.next ≡ 1 + length (keys (shown_in s.lines s.memo)) → s.tree ≡ node 0 Root (below_in s.lines s.memo) none → KnowsThere s → Stands lines links s
-stands lines links s own linked made next tree knows =
+    s.next ≡ 1 + length (keys (shown_in s.lines s.memo)) → s.tree ≡ node 0 Root (below_in s.lines s.memo) none → KnowsThere s → LinedThere s → Stands lines links s
+stands lines links s own linked made next tree knows lined =
     let x = stands_as lines links s (below_in s.lines s.memo) own made (ap (λ z. below_in z s.memo) own)
     (next ∙ ap (λ z. 1 + length (keys (shown_in z s.memo))) own) tree in
     record {
@@ -133,6 +137,7 @@ stands lines links s own linked made next tree knows =
       sound = x.sound;
       names = names_heard (keys_of s.heard) (names s.memo) made.order;
       known = knows (page_in s) x.keeps.page (shape_of lines links s (below_in s.lines s.memo) own x) x.keeps.stands;
+      lined = lined (page_in s) x.keeps.page (shape_of lines links s (below_in s.lines s.memo) own x) x.keeps.stands;
     }
 
 -- it is that of the signals, and so are the operations

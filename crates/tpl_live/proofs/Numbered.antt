@@ -41,7 +41,7 @@ keys_looks : (t : Forest (ℕ × Look)) → keys (looks t) ≡ keys t
 keys_looks none = refl
 keys_looks (node a x k r) = (λ i. a ∷ (keys_looks k i ++ keys_looks r i))
 
-keys_shown : (t : Forest Look) → keys (shown t) ≡ keys t
+pub keys_shown : (t : Forest Look) → keys (shown t) ≡ keys t
 keys_shown none = refl
 keys_shown (node a x k r) = (λ i. a ∷ (keys_shown k i ++ keys_shown r i))
 

@@ -27,7 +27,7 @@ use Rattle.tpl_model.specs.Sources.{evaluating, firsts}
 use Rattle.tpl_model.specs.Updates.{updated}
 use Rattle.tpl_model.specs.PageUpdates.PageMemos.{PageMemo, hearing, memo_of, names, nodes}
 use Rattle.tpl_model.specs.PageUpdates.Updates.{Keeps, memo_on, memo_shape, shape_on}
-use Rattle.tpl_live.specs.Pages.{AreKnown, Standing, Stands, lines_shape, numbered_as, outcome_in, page_in}
+use Rattle.tpl_live.specs.Pages.{AreKnown, AreLined, Standing, Stands, lines_shape, numbered_as, outcome_in, page_in}
 use Rattle.tpl_live.specs.Plans.{Carries, Compares}
 use Rattle.tpl_drawn.specs.Comparison.{Compared, known_of, restated_in, touched_in}
 use Rattle.tpl_drawn.proofs.Shared.{compare_law}
@@ -86,17 +86,19 @@ follows lines links s heard m st made =
     }
 
 -- the page that comes next
-abbrev pub next_of : Standing → Outcomes → PageMemo → ℕ → Forest Kind → (Address → Option ℕ) → Standing
-next_of s heard m next tree number = record { lines = s.lines; links = s.links; heard = heard; memo = m; next = next; tree = tree; number = number }
+abbrev pub next_of : Standing → Outcomes → PageMemo → ℕ → Forest Kind → (Address → Option ℕ) → (ℕ → Option ℕ) → Standing
+next_of s heard m next tree number line =
+    record { lines = s.lines; links = s.links; heard = heard; memo = m; next = next; tree = tree; number = number; line = line }
 
 pub record NextStands (lines : List Line) (links : List ℕ) (s t : Standing) (m : PageMemo) : Type 0 where
   pub page : page_in t ≡ renumbered (page_in s) (memo_shape lines m)
   pub stands : Stands lines links t
 
 pub next_stands : (lines : List Line) (links : List ℕ) (s : Standing) (heard : Outcomes) (m : PageMemo) (next : ℕ) (tree : Forest Kind)
-    (number : Address → Option ℕ) (os : List Op) → Stands lines links s → AreMade lines links heard m →
-    Carries (page_in s) (lines_shape s.lines m) os next tree number → NextStands lines links s (next_of s heard m next tree number) m
-next_stands lines links s heard m next tree number os st made carried_there =
+    (number : Address → Option ℕ) (line : ℕ → Option ℕ) (os : List Op) → Stands lines links s → AreMade lines links heard m →
+    Carries (page_in s) (lines_shape s.lines m) os next tree number → AreLined (renumbered (page_in s) (lines_shape s.lines m)) line →
+    NextStands lines links s (next_of s heard m next tree number line) m
+next_stands lines links s heard m next tree number line os st made carried_there lined_there =
     let p = page_in s in
     let shape = memo_shape lines m in
     let f = follows lines links s heard m st made in
@@ -104,7 +106,7 @@ next_stands lines links s heard m next tree number os st made carried_there =
     let all : numbered_as (lines_shape s.lines m) tree ≡ with_numbers (carried p shape) shape =
     (λ i. numbered_as (f.is i) (trees i)) ∙ numbers_back (carried p shape) shape in
     let count : next ≡ (renumbered p shape).next = carried_there.leads.count ∙ ap (λ z. (renumbered p z).next) f.is in
-    let page : page_in (next_of s heard m next tree number) ≡ renumbered p shape = (λ i. record { nodes = all i; next = count i }) in
+    let page : page_in (next_of s heard m next tree number line) ≡ renumbered p shape = (λ i. record { nodes = all i; next = count i }) in
     record {
       page = page;
       stands = record {
@@ -116,6 +118,7 @@ next_stands lines links s heard m next tree number os st made carried_there =
         sound = subst (λ z. Sound (page_shape z)) (sym page) f.updates.sound;
         names = names_heard (keys_of heard) (names m) made.order;
         known = subst (λ z. AreKnown z tree number) (sym page) (subst (λ z. AreKnown (renumbered p z) tree number) f.is carried_there.known);
+        lined = subst (λ z. AreLined z line) (sym page) (subst (λ z. AreLined (renumbered p z) line) f.is lined_there);
       };
     }
 
@@ -125,14 +128,15 @@ pub record IsCarried (hosts : Hosts) (lines : List Line) (links : List ℕ) (x :
   pub ops : os ≡ (updated hosts x.graph.state.signals lines links x.graph.state.memos (page_in s)).ops
 
 pub is_carried : (x y : Scene) (before after : Hosts → Type 0) (lines : List Line) (links : List ℕ) (first heard : Outcomes) (s : Standing) (m : PageMemo)
-    (next : ℕ) (tree : Forest Kind) (number : Address → Option ℕ) (os : List Op) (hosts : Hosts) → first ≡ [] → Hears x y before after first heard →
+    (next : ℕ) (tree : Forest Kind) (number : Address → Option ℕ) (line : ℕ → Option ℕ) (os : List Op) (hosts : Hosts) → first ≡ [] → Hears x y before after first heard →
     before hosts → AreKept hosts x.graph.state.signals x.graph.state.memos → Stands lines links s → AreMade lines links heard m →
-    Carries (page_in s) (lines_shape s.lines m) os next tree number → IsCarried hosts lines links x s (next_of s heard m next tree number) os
-is_carried x y before after lines links first heard s m next tree number os hosts fresh h all kept st made carried_there =
+    Carries (page_in s) (lines_shape s.lines m) os next tree number → AreLined (renumbered (page_in s) (lines_shape s.lines m)) line →
+    IsCarried hosts lines links x s (next_of s heard m next tree number line) os
+is_carried x y before after lines links first heard s m next tree number line os hosts fresh h all kept st made carried_there lined_there =
     let w : Signals = x.graph.state.signals in
     let p = page_in s in
     let f = follows lines links s heard m st made in
-    let ns = next_stands lines links s heard m next tree number os st made carried_there in
+    let ns = next_stands lines links s heard m next tree number line os st made carried_there lined_there in
     let scratch : AreFromScratch hosts w heard =
     heard_scratch x y before after first heard hosts h all kept (subst (AreFromScratch hosts w) (sym fresh) tt) in
     let right = made_right hosts w lines links heard m made.memo made.order scratch in

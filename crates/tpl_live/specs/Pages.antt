@@ -1,15 +1,16 @@
 -- A page that stands: what it keeps, and the page that this shows.
-use Rattle.std.specs.Prelude.{◌≡◌, ◌<◌, ℕ, suc, List, [], ◌∷◌, Option, Some, None, unwrap_or}
+use Rattle.std.specs.Prelude.{◌≡◌, ◌<◌, ◌==◌, ℕ, suc, true, false, List, [], ◌∷◌, Option, Some, None, unwrap_or}
 use Rattle.std.specs.Map.{keys_of}
 use Rattle.sig_base.specs.declared.value.Fault.TheVariants.{Gone}
 use Rattle.sig_base.specs.declared.value.Outcome.{Outcome}
 use Rattle.sig_base.specs.declared.value.Outcome.TheVariants.{Bad}
-use Rattle.page_model.specs.Forest.{Forest, none, node}
+use Rattle.page_model.specs.Forest.{Forest, none, node, on}
 use Rattle.page_model.specs.Labels.{Root, Kind, Look, Sound, shown}
-use Rattle.page_model.specs.Pages.{NumberedPage, page_shape}
+use Rattle.page_model.specs.Pages.{NumberedPage, number_of, page_shape}
 use Rattle.page_model.specs.Replay.{Done, Op, OpInsert, replay}
 use Rattle.page_model.specs.Trees.{AreNodes}
 use Rattle.page_tree.specs.Queries.{IsDone}
+use Rattle.event_model.specs.Ways.{line_in}
 use Rattle.tpl_model.specs.Lines.{Block, Line, block_of}
 use Rattle.tpl_model.specs.Laws.{IsTemplate}
 use Rattle.tpl_model.specs.Sources.{firsts, in_order}
@@ -22,7 +23,7 @@ use Rattle.tpl_model.specs.PageUpdates.Updates.{Keeps}
 use Rattle.tpl_drawn.specs.Comparison.{known_of}
 
 -- what is kept of a page: the lines and what their names stand for, what was heard of the names, what is kept of the lines, the next unused
--- number, the tree, and the numbers that were noted of addresses
+-- number, the tree, and the numbers that were noted of addresses, with the lines of these
 pub record Standing : Type 0 where
   pub lines : Block
   pub links : List ℕ
@@ -31,6 +32,7 @@ pub record Standing : Type 0 where
   pub next : ℕ
   pub tree : Forest Kind
   pub number : Address → Option ℕ
+  pub line : ℕ → Option ℕ
 
 -- the nodes that lines show, by what is kept of them
 abbrev pub shown_in : Block → PageMemo → Forest Look
@@ -62,7 +64,11 @@ pub record AreKnown (p : NumberedPage) (tree : Forest Kind) (number : Address �
   pub knows : Knows (among tree number) (known_of p)
   pub given : (a : Address) (n : ℕ) → number a ≡ Some n → n < p.next
 
--- a page of these lines stands on what was heard of the names that it read, and the numbers of its nodes are known
+-- the lines of the nodes below the root are known by number: each is that of the node's address
+abbrev pub AreLined : NumberedPage → (ℕ → Option ℕ) → Type 0
+AreLined p line = (a : ℕ) → on a (page_shape p) ≡ true → (0 == a) ≡ false → line (number_of p a) ≡ Some (line_in a)
+
+-- a page of these lines stands on what was heard of the names that it read, and the numbers of its nodes are known, and their lines
 pub record Stands (lines : List Line) (links : List ℕ) (s : Standing) : Type 0 where
   pub template : IsTemplate lines
   pub block : s.lines ≡ block_of lines
@@ -71,6 +77,7 @@ pub record Stands (lines : List Line) (links : List ℕ) (s : Standing) : Type 0
   pub sound : Sound (page_shape (page_in s))
   pub names : keys_of s.heard ≡ firsts [] (names s.memo)
   pub known : AreKnown (page_in s) s.tree s.number
+  pub lined : AreLined (page_in s) s.line
 
 -- so it is for some lines
 pub record IsStanding (s : Standing) : Type 0 where

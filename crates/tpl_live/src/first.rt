@@ -10,7 +10,8 @@ ghost use Rattle.page_tree.specs.Subs.{side_by_side, sub_tree};
 ghost use Rattle.tpl_blocks.specs.Blocks.{block};
 ghost use Rattle.tpl_model.specs.KeptLines.Kept.{kept};
 ghost use Rattle.tpl_drawn.specs.Addresses.{number_at};
-ghost use Rattle.tpl_live.specs.Pages.{below_in, inserts, lines_shape, shown_in, AreInserted, AreKnown, Leads};
+ghost use Rattle.tpl_drawn.specs.Lines.{line_at};
+ghost use Rattle.tpl_live.specs.Pages.{below_in, inserts, lines_shape, shown_in, AreInserted, AreKnown, AreLined, Leads};
 
 use crate::plan::read_numbers;
 use page_ops::Op;
@@ -72,7 +73,8 @@ fn insertions(alloc: Global, subs: Vec<Sub>) -> Result<Vec<Op>, NoMemory>
     Ok(ops)
 }
 
-/// The first nodes of a page, by what is kept of its lines: these are shown once, and tree, operations and numbers are made of that.
+/// The first nodes of a page, by what is kept of its lines: these are shown once, and tree, operations and numbers are made of that. The two
+/// premises are those of the inserting and of the numbers; tree, operations and table are told apart, as they are used apart.
 ///
 /// # Errors
 ///
@@ -83,6 +85,8 @@ pub fn first_nodes(alloc: Global, lines: &Block, memo: &PageMemo) -> Result<Firs
     ensures tree { IfOk result (λ f. f.nodes.tree ≡ node 0 Root (below_in (block lines.now) (kept memo.now)) none) }
     ensures ops { IfOk result (λ f. map op_of f.ops.items ≡ inserts 0 (below_in (block lines.now) (kept memo.now))) }
     ensures next { IfOk result (λ f. f.nodes.next ≡ 1 + length (keys (shown_in (block lines.now) (kept memo.now)))) }
+    ensures lines { (p : NumberedPage) → IsPage p → page_shape p ≡ lines_shape (block lines.now) (kept memo.now) → IfOk result (λ f.
+        f.nodes.tree ≡ tree_of p → AreLined p (line_at f.nodes.numbers)) }
     ensures numbers { (p : NumberedPage) → IsPage p → page_shape p ≡ lines_shape (block lines.now) (kept memo.now) → IfOk result (λ f.
         f.nodes.tree ≡ tree_of p → AreKnown p f.nodes.tree (number_at f.nodes.numbers)) }
 {

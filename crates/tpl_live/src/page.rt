@@ -1,11 +1,14 @@
 // Pages of templates.
-ghost use Rattle.std.specs.Prelude.{◌≡◌, ◌<◌, ◌^◌, ℕ, List, map, IfOk, OnOk};
+ghost use Rattle.std.specs.Prelude.{◌≡◌, ◌<◌, ◌^◌, ℕ, None, Some, List, if◌then◌else◌, map, IfOk, OnOk};
 ghost use Rattle.signal_model.specs.Recipes.{Hosts};
 ghost use Rattle.signal_model.specs.Kept.{AreKept};
 ghost use Rattle.sig_host.specs.Hosts.{most_asked};
 ghost use Rattle.sig_computed.specs.Asked.{AreThere};
 ghost use Rattle.sig_computed.specs.Notes.{IsIdle};
+ghost use Rattle.page_model.specs.Forest.{parent};
 ghost use Rattle.page_model.specs.Pages.{bare};
+ghost use Rattle.page_model.specs.Replay.{below_root};
+ghost use Rattle.event_model.specs.Ways.{line_on};
 ghost use Rattle.page_ops.specs.Ops.{op_of};
 ghost use Rattle.tpl_model.specs.Laws.{IsTemplate};
 ghost use Rattle.tpl_model.specs.Lines.{Line};
@@ -66,6 +69,22 @@ impl Page {
         ensures { result.now ≡ (standing self.now).tree }
     {
         &self.nodes.tree
+    }
+
+    /// The line of the template from which a node comes, counted from 1; None exactly where there is no such node or it is the root.
+    pub fn line_of(&self, id: u64) -> Option<usize>
+        ensures { (lines : List Line) (links : List ℕ) → Stands lines links (standing self.now) →
+            result ≡ (if below_root id (standing self.now).tree then Some (line_on (page_in (standing self.now)) id) else None) }
+    {
+        self.nodes.line(id)
+    }
+
+    /// The node under which a node stands; None exactly where there is no such node or it is the root.
+    pub fn parent_of(&self, id: u64) -> Option<u64>
+        ensures { result ≡ (if below_root id (standing self.now).tree then Some (parent id (standing self.now).tree) else None) }
+    {
+        let (parent, _) = self.nodes.tree.place_of(id)?;
+        Some(parent)
     }
 
     /// A page of a template whose names are these signals, up to date, and the operations that make it of the bare page: the names that

@@ -2,7 +2,7 @@
 ghost use Rattle.std.specs.Prelude.{◌≡◌, ◌<◌, ◌^◌, ◌+◌, ◌++◌, ◌∷◌, [], length, map, IfOk, OnOk};
 ghost use Rattle.page_model.specs.Forest.{Forest, keys, node, none};
 ghost use Rattle.page_model.specs.Labels.{Kind, Root};
-ghost use Rattle.page_model.specs.Pages.{NumberedPage, IsPage, new_order, page_shape, tree_of};
+ghost use Rattle.page_model.specs.Pages.{NumberedPage, IsPage, new_order, page_shape, renumbered, tree_of};
 ghost use Rattle.page_model.specs.Replay.{do_op, replay, Done};
 ghost use Rattle.page_model.specs.Trees.{Brings};
 ghost use Rattle.page_ops.specs.Ops.{op_of};
@@ -10,11 +10,12 @@ ghost use Rattle.page_tree.specs.Queries.{IsDone};
 ghost use Rattle.tpl_blocks.specs.Blocks.{block};
 ghost use Rattle.tpl_model.specs.KeptLines.Changes.{changed};
 ghost use Rattle.tpl_drawn.specs.Addresses.{coming_below, noted_from, number_at};
+ghost use Rattle.tpl_drawn.specs.Lines.{line_at, lined_from};
 ghost use Rattle.tpl_model.specs.KeptLines.Kept.{kept};
 ghost use Rattle.tpl_patch.specs.Moves.{AllFit, AllSound, number_behind};
 ghost use Rattle.tpl_model.specs.ShownNodes.Addresses.{address_of};
 ghost use Rattle.tpl_model.specs.ShownNodes.Shapes.{all_shown, child_of, mark_of};
-ghost use Rattle.tpl_live.specs.Pages.{lines_shape, shown_in, AreKnown};
+ghost use Rattle.tpl_live.specs.Pages.{lines_shape, shown_in, AreKnown, AreLined};
 ghost use Rattle.tpl_live.specs.Plans.{children_staying, number_staying, keeps_children, moving, numbers_of as numbers_in, numbers_staying, ops_towards, AllBring, CanCompare, Carries, Compares, LeadOn};
 
 use page_ops::{Op, apply};
@@ -27,14 +28,16 @@ use tpl_kept::Renewed;
 use tpl_model::{Address, Change, Child, Mark, PageMemo, Shown};
 use tpl_patch::{NumberSet, put_looks, put_moves, removals};
 
-/// The numbers of a page's nodes, by their addresses, from those that it shows below the root and from its tree.
+/// The numbers of a page's nodes, by their addresses, and the lines of those below the root, from those that it shows there and from its tree.
 ///
 /// # Errors
 ///
 /// `NoMemory` alone.
 pub fn read_numbers(alloc: Global, nodes: Vec<Shown>, tree: &Tree) -> Result<Numbers, NoMemory>
     requires { length (keys (all_shown nodes.items)) + 1 ≡ length (keys tree.now) }
-    ensures { (p : NumberedPage) → IsPage p → page_shape p ≡ node 0 Root (all_shown nodes.items) none → tree.now ≡ tree_of p →
+    ensures lines { (p : NumberedPage) → IsPage p → page_shape p ≡ node 0 Root (all_shown nodes.items) none → tree.now ≡ tree_of p →
+        IfOk result (λ n. AreLined p (line_at n)) }
+    ensures numbers { (p : NumberedPage) → IsPage p → page_shape p ≡ node 0 Root (all_shown nodes.items) none → tree.now ≡ tree_of p →
         IfOk result (λ n. AreKnown p tree.now (number_at n)) }
 {
     let mut addresses = Vec::new(alloc);
@@ -45,7 +48,7 @@ pub fn read_numbers(alloc: Global, nodes: Vec<Shown>, tree: &Tree) -> Result<Num
     Ok(numbers)
 }
 
-// The numbers of a page's nodes, by their addresses, from what is kept of its lines and from its tree.
+// So it is from what is kept of its lines and from its tree.
 fn numbers_of(
     alloc: Global,
     lines: &Block,
@@ -53,7 +56,9 @@ fn numbers_of(
     tree: &Tree,
 ) -> Result<Numbers, NoMemory>
     requires { length (keys (shown_in (block lines.now) (kept memo.now))) + 1 ≡ length (keys tree.now) }
-    ensures { (p : NumberedPage) → IsPage p → page_shape p ≡ lines_shape (block lines.now) (kept memo.now) → tree.now ≡ tree_of p →
+    ensures lines { (p : NumberedPage) → IsPage p → page_shape p ≡ lines_shape (block lines.now) (kept memo.now) → tree.now ≡ tree_of p →
+        IfOk result (λ n. AreLined p (line_at n)) }
+    ensures numbers { (p : NumberedPage) → IsPage p → page_shape p ≡ lines_shape (block lines.now) (kept memo.now) → tree.now ≡ tree_of p →
         IfOk result (λ n. AreKnown p tree.now (number_at n)) }
 {
     let mut shown = Vec::new(alloc);
@@ -75,7 +80,9 @@ fn renumber(
 ) -> Result<(), NoMemory>
     requires many { length (keys (shown_in (block lines.now) (kept memo.now))) + 1 ≡ length (keys tree.now) }
     requires room { from + length coming.items < 2 ^ 64 }
-    ensures { (p : NumberedPage) → IsPage p → page_shape p ≡ lines_shape (block lines.now) (kept memo.now) → tree.now ≡ tree_of p →
+    ensures lines { (p : NumberedPage) → IsPage p → page_shape p ≡ lines_shape (block lines.now) (kept memo.now) → tree.now ≡ tree_of p →
+        AreLined p (lined_from coming.items from (line_at numbers.old)) → OnOk result (AreLined p (line_at numbers.new)) }
+    ensures numbers { (p : NumberedPage) → IsPage p → page_shape p ≡ lines_shape (block lines.now) (kept memo.now) → tree.now ≡ tree_of p →
         AreKnown p tree.now (noted_from coming.items from (number_at numbers.old)) → OnOk result (AreKnown p tree.now (number_at numbers.new)) }
 {
     numbers.note_all(coming, from)?;
@@ -260,7 +267,11 @@ pub fn carry(
     nodes: &mut PageNodes,
 ) -> Result<Vec<Op>, NoMemory>
     requires { CanCompare (block lines.now) (kept renewed.now.memo) (changed renewed.now.change) (number_at nodes.old.numbers) nodes.old.tree nodes.old.next }
-    ensures { (p : NumberedPage) →
+    ensures lines { (p : NumberedPage) →
+        Compares p (block lines.now) (kept renewed.now.memo) (changed renewed.now.change) (number_at nodes.old.numbers) nodes.old.tree nodes.old.next →
+        AreLined p (line_at nodes.old.numbers) →
+        OnOk result (AreLined (renumbered p (lines_shape (block lines.now) (kept renewed.now.memo))) (line_at nodes.new.numbers)) }
+    ensures carries { (p : NumberedPage) →
         Compares p (block lines.now) (kept renewed.now.memo) (changed renewed.now.change) (number_at nodes.old.numbers) nodes.old.tree nodes.old.next →
         IfOk result (λ ops. Carries p (lines_shape (block lines.now) (kept renewed.now.memo)) (map op_of ops.items) nodes.new.next nodes.new.tree
         (number_at nodes.new.numbers)) }

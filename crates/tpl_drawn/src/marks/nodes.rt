@@ -1,6 +1,8 @@
 // The nodes of a page that stands.
-ghost use Rattle.std.specs.Prelude.{◌≡◌};
+ghost use Rattle.std.specs.Prelude.{◌≡◌, None, if◌then◌else◌};
+ghost use Rattle.page_model.specs.Replay.{below_root};
 ghost use Rattle.tpl_drawn.specs.Addresses.{number_on};
+ghost use Rattle.tpl_drawn.specs.Lines.{line_at};
 
 use crate::marks::numbers::Numbers;
 use page_tree::Tree;
@@ -31,5 +33,12 @@ impl PageNodes {
         let number = self.numbers.number(address)?;
         self.tree.child_count(number)?;
         Some(number)
+    }
+    /// The line of the template from which a node below the root comes, counted from 1; none where the page has no such node.
+    pub fn line(&self, number: u64) -> Option<usize>
+        ensures { result ≡ (if below_root number self.now.tree then line_at self.now.numbers number else None) }
+    {
+        self.tree.place_of(number)?;
+        self.numbers.line(number)
     }
 }

@@ -1,5 +1,5 @@
 // The numbers of a page's nodes by their addresses.
-ghost use Rattle.std.specs.Prelude.{◌≡◌, ◌≤◌, ◌<◌, ℕ, ◌+◌, ◌/◌, ◌^◌, ltb, ◌∷◌, ◌++◌, Some, if◌then◌else◌, length, map, IfOk, OnOk};
+ghost use Rattle.std.specs.Prelude.{◌≡◌, ◌≤◌, ◌<◌, ℕ, ◌+◌, ◌/◌, ◌^◌, ltb, ◌∷◌, ◌++◌, None, Some, drop, if◌then◌else◌, length, map, IfOk, OnOk};
 ghost use Rattle.indexmap.specs.IndexMap.{index_map_len};
 ghost use Rattle.page_model.specs.Forest.{Forest, keys, tally};
 ghost use Rattle.page_model.specs.Labels.{Look};
@@ -8,7 +8,9 @@ ghost use Rattle.tpl_model.specs.ShownNodes.Addresses.{address_of, same_address}
 ghost use Rattle.tpl_model.specs.ShownNodes.Shapes.{all_shown, shown_tree};
 ghost use Rattle.tpl_model.specs.declared.shown.Address.{Address as AnAddress};
 ghost use Rattle.tpl_drawn.specs.Addresses.{noted_from, number_at, number_in, AreNumbersOf};
+ghost use Rattle.tpl_drawn.specs.Lines.{line_at, lined, lined_from};
 
+use crate::marks::lines::{lines_under, note_lines};
 use indexmap::IndexMap;
 use sig_base::NoMemory;
 use std::alloc::Global;
@@ -52,15 +54,38 @@ fn note(all: &mut IndexMap<Address, u64>, address: Address, number: u64) -> Resu
     Ok(())
 }
 
-/// The numbers that were noted of addresses: that of each node of a page, and of some that are gone, until they are read off anew.
+// Notes the numbers of these addresses, which are those from this one on.
+fn note_numbers(
+    all: &mut IndexMap<Address, u64>,
+    addresses: Vec<Address>,
+    from: u64,
+) -> Result<(), NoMemory>
+    requires { from + length addresses.items < 2 ^ 64 }
+    ensures { OnOk result ((a : AnAddress) → number_in all.new a ≡ noted_from addresses.items from (number_in all.old) a) }
+{
+    let mut number = from;
+    for address in addresses {
+        note(all, address, number)?;
+        number += 1;
+    }
+    Ok(())
+}
+
+/// The numbers that were noted of addresses, and the line of each: those of each node of a page, and of some that are gone, until they are read
+/// off anew.
 pub struct Numbers {
     all: IndexMap<Address, u64>,
+    lines: IndexMap<u64, usize>,
     read: usize,
 }
 
 impl Drop for Numbers {
     fn drop(self) {
-        let Numbers { all: _, read: _ } = self;
+        let Numbers {
+            all: _,
+            lines: _,
+            read: _,
+        } = self;
     }
 }
 
@@ -73,9 +98,12 @@ impl Numbers {
     /// `NoMemory` alone.
     pub fn of(alloc: Global, addresses: Vec<Address>, numbers: &[u64]) -> Result<Numbers, NoMemory>
         requires { length addresses.items + 1 ≡ length numbers.now }
-        ensures { (nodes : Forest (ℕ × Look)) (root : ℕ) → ((j : ℕ) → tally j nodes ≤ 1) → map address_of addresses.items ≡ keys nodes →
+        ensures lines { IfOk result (λ n. (k : ℕ) → line_at n k ≡ lined addresses.items (drop 1 numbers.now) (λ j. None) k) }
+        ensures numbers { (nodes : Forest (ℕ × Look)) (root : ℕ) → ((j : ℕ) → tally j nodes ≤ 1) → map address_of addresses.items ≡ keys nodes →
             numbers.now ≡ root ∷ keys (by_number nodes) → IfOk result (λ n. AreNumbersOf (number_at n) nodes) }
     {
+        let (_, below) = numbers.split_at(1);
+        let lines = lines_under(alloc, &addresses, below)?;
         let mut all = IndexMap::new(alloc);
         let mut at = 1;
         for address in addresses {
@@ -83,7 +111,7 @@ impl Numbers {
             at += 1;
         }
         let read = all.len();
-        Ok(Numbers { all, read })
+        Ok(Numbers { all, lines, read })
     }
 
     /// Notes these addresses under the numbers from this one on, one after the other; one that was noted has its new number then.
@@ -93,13 +121,11 @@ impl Numbers {
     /// `NoMemory` alone; some may then be noted.
     pub fn note_all(&mut self, addresses: Vec<Address>, from: u64) -> Result<(), NoMemory>
         requires { from + length addresses.items < 2 ^ 64 }
-        ensures { OnOk result ((a : AnAddress) → number_at self.new a ≡ noted_from addresses.items from (number_at self.old) a) }
+        ensures lines { OnOk result ((k : ℕ) → line_at self.new k ≡ lined_from addresses.items from (line_at self.old) k) }
+        ensures numbers { OnOk result ((a : AnAddress) → number_at self.new a ≡ noted_from addresses.items from (number_at self.old) a) }
     {
-        let mut number = from;
-        for address in addresses {
-            note(&mut self.all, address, number)?;
-            number += 1;
-        }
+        note_lines(&mut self.lines, &addresses, from)?;
+        note_numbers(&mut self.all, addresses, from)?;
         Ok(())
     }
 
@@ -115,5 +141,11 @@ impl Numbers {
         ensures { result ≡ number_at self.now address.now }
     {
         self.all.get(address).copied()
+    }
+    /// The line that was noted of a number.
+    pub fn line(&self, number: u64) -> Option<usize>
+        ensures { result ≡ line_at self.now number }
+    {
+        self.lines.get(&number).copied()
     }
 }

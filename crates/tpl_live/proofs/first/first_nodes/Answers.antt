@@ -57,4 +57,12 @@ returns-clause-numbers c = λ p q shape.
     let f = put_first (block c.args.lines.now) (kept c.args.memo.now) c.new-shown.result.items (all_shown c.put_shown.new.out.items) out.subs.items out.next
     (nodes_of c.new-out.result) c.new-shown.ensures.items c.in_ok-put_shown.ensures c.requires.sound c.new-out.ensures
     (rw c.deref.ensures.value at c.in_ok-put_nodes.ensures) in
-    c.in_ok-numbers.ensures p q (shape ∙ ap (λ (z : Forest Look). node 0 Root z none) (sym f.drawn))
+    c.in_ok-numbers.ensures.numbers p q (shape ∙ ap (λ (z : Forest Look). node 0 Root z none) (sym f.drawn))
+
+pub returns-clause-lines : goal.returns-clause-lines
+returns-clause-lines c = λ p q shape.
+    let out = c.put_nodes.new.out in
+    let f = put_first (block c.args.lines.now) (kept c.args.memo.now) c.new-shown.result.items (all_shown c.put_shown.new.out.items) out.subs.items out.next
+    (nodes_of c.new-out.result) c.new-shown.ensures.items c.in_ok-put_shown.ensures c.requires.sound c.new-out.ensures
+    (rw c.deref.ensures.value at c.in_ok-put_nodes.ensures) in
+    c.in_ok-numbers.ensures.lines p q (shape ∙ ap (λ (z : Forest Look). node 0 Root z none) (sym f.drawn))

@@ -14,9 +14,16 @@ read_numbers-requires c =
     c.in_ok-put_shown.ensures ∙ ap (λ z. after (all_shown z) below) c.new-shown.ensures.items in
     subst (λ (z : Forest Look). length (keys z) + 1 ≡ length (keys c.args.tree.now)) (sym e) c.requires
 
-pub returns : goal.returns
-returns c = λ p q shape stands.
+pub returns-clause-lines : goal.returns-clause-lines
+returns-clause-lines c = λ p q shape stands.
     let below = shown_in (block c.args.lines.now) (kept c.args.memo.now) in
     let e : all_shown c.put_shown.new.out.items ≡ below =
     c.in_ok-put_shown.ensures ∙ ap (λ z. after (all_shown z) below) c.new-shown.ensures.items in
-    c.in_ok-numbers.ensures p q (shape ∙ ap (λ (z : Forest Look). node 0 Root z none) (sym e)) stands
+    c.in_ok-numbers.ensures.lines p q (shape ∙ ap (λ (z : Forest Look). node 0 Root z none) (sym e)) stands
+
+pub returns-clause-numbers : goal.returns-clause-numbers
+returns-clause-numbers c = λ p q shape stands.
+    let below = shown_in (block c.args.lines.now) (kept c.args.memo.now) in
+    let e : all_shown c.put_shown.new.out.items ≡ below =
+    c.in_ok-put_shown.ensures ∙ ap (λ z. after (all_shown z) below) c.new-shown.ensures.items in
+    c.in_ok-numbers.ensures.numbers p q (shape ∙ ap (λ (z : Forest Look). node 0 Root z none) (sym e)) stands

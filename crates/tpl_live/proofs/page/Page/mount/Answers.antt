@@ -3,6 +3,7 @@ use Rattle.std.specs.Box.{box_value}
 use Rattle.page_ops.specs.Ops.{op_of}
 use Rattle.tpl_blocks.specs.Blocks.{block, lines_of}
 use Rattle.tpl_drawn.specs.Addresses.{number_at}
+use Rattle.tpl_drawn.specs.Lines.{line_at}
 use Rattle.tpl_model.specs.KeptLines.Memos.{Makes, lines_memo}
 use Rattle.tpl_model.specs.KeptLines.Kept.{kept}
 use Rattle.tpl_live.specs.Pages.{Standing}
@@ -60,8 +61,9 @@ returns-clause-stands g c =
       next = first.nodes.next;
       tree = first.nodes.tree;
       number = number_at first.nodes.numbers;
+      line = line_at first.nodes.numbers;
     } in
-    stands lines c.args.links.items s is refl made f.next f.tree f.numbers
+    stands lines c.args.links.items s is refl made f.next f.tree f.numbers f.lines
 
 pub returns-clause-page : goal.returns-clause-page
 returns-clause-page g c = λ hosts all stay.
@@ -83,6 +85,7 @@ returns-clause-page g c = λ hosts all stay.
       next = first.nodes.next;
       tree = first.nodes.tree;
       number = number_at first.nodes.numbers;
+      line = line_at first.nodes.numbers;
     } in
     (is_updated _ _ _ _ lines c.args.links.items c.new-heard.result s (map op_of first.ops.items) hosts c.new-heard.ensures c.in_ok-made.ensures.after all stay
     is made f.next f.tree f.ops).page
@@ -107,6 +110,7 @@ returns-clause-ops g c = λ hosts all stay.
       next = first.nodes.next;
       tree = first.nodes.tree;
       number = number_at first.nodes.numbers;
+      line = line_at first.nodes.numbers;
     } in
     (is_updated _ _ _ _ lines c.args.links.items c.new-heard.result s (map op_of first.ops.items) hosts c.new-heard.ensures c.in_ok-made.ensures.after all stay
     is made f.next f.tree f.ops).ops

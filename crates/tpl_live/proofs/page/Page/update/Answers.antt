@@ -1,11 +1,15 @@
-use Rattle.std.proofs.Common.{[], None, map, refl, arith, ap, ◌∙◌}
+use Rattle.std.proofs.Common.{◌≡◌, [], None, map, refl, arith, ap, subst, ◌∙◌}
+use Rattle.page_model.specs.Pages.{renumbered}
 use Rattle.page_ops.specs.Ops.{op_of}
+use Rattle.tpl_blocks.specs.Blocks.{block}
 use Rattle.tpl_model.specs.KeptLines.Changes.{Tells, changed}
 use Rattle.tpl_hearing.proofs.Shared.{then_heard}
 use Rattle.tpl_drawn.specs.Addresses.{number_at}
+use Rattle.tpl_drawn.specs.Lines.{line_at}
 use Rattle.tpl_model.specs.KeptLines.Kept.{kept}
-use Rattle.tpl_live.specs.Pages.{page_in}
+use Rattle.tpl_live.specs.Pages.{AreLined, lines_shape, page_in}
 use Rattle.tpl_live.specs.Contents.{standing}
+use Rattle.tpl_live.specs.Plans.{Compares}
 use Rattle.tpl_live.proofs.Mounts.{AreMade}
 use Rattle.tpl_live.proofs.Reheard.{all_heard, found_compared, found_front, front_heard}
 use Rattle.tpl_live.proofs.Renewed.{compares_there, is_carried, made_anew, made_still, next_of, next_stands, was_made_there}
@@ -71,11 +75,17 @@ returns-clause-stands g c = rw (c.in_ok-memo.ensures.ok, c.memo_in.ensures, c.in
     c.in_ok-fresh.ensures.after.grows (rw (c.deref.ensures, c.deref-2.ensures.value) at c.in_ok-fresh.ensures.made) c.good.ensures in
     let change = changed c.in_ok-fresh.fresh.change in
     let told : Tells s.lines s.links None s.heard m change = rw (c.deref.ensures, c.deref-2.ensures.value) at c.in_ok-fresh.ensures.told in
-    let carried = (rw (c.deref-3.ensures, c.deref-4.ensures, c.in_ok-renewed.ensures.ok) at c.in_ok-ops.ensures) (page_in s) (compares_there lines links s c.renew.new.hearing.heard m change st made told) in
+    let carried = (rw (c.deref-3.ensures, c.deref-4.ensures, c.in_ok-renewed.ensures.ok) at c.in_ok-ops.ensures.carries) (page_in s) (compares_there lines links s c.renew.new.hearing.heard m change st made told) in
     let os = map op_of c.in_ok-ops.ops.items in
     let next = c.carry.new.nodes.next in
     let number = number_at c.carry.new.nodes.numbers in
-    (next_stands lines links s c.renew.new.hearing.heard m next c.carry.new.nodes.tree number os st made carried).stands)
+    let line = line_at c.carry.new.nodes.numbers in
+    let there : Compares (page_in s) (block c.deref-3.result.now) (kept c.deref-4.result.now.memo) (changed c.deref-4.result.now.change) s.number s.tree s.next =
+    rw (c.deref-3.ensures, c.deref-4.ensures, c.in_ok-renewed.ensures.ok) (compares_there lines links s c.renew.new.hearing.heard m change st made told) in
+    let same_shape : lines_shape (block c.deref-3.result.now) (kept c.deref-4.result.now.memo) ≡ lines_shape s.lines m =
+    rw (c.deref-3.ensures, c.deref-4.ensures, c.in_ok-renewed.ensures.ok) refl in
+    let lined = subst (λ z. AreLined (renumbered (page_in s) z) line) same_shape (c.in_ok-ops.ensures.lines (page_in s) there st.lined) in
+    (next_stands lines links s c.renew.new.hearing.heard m next c.carry.new.nodes.tree number line os st made carried lined).stands)
 
 pub returns-clause-page : goal.returns-clause-page
 returns-clause-page g c = λ lines links st hosts all stay.
@@ -86,14 +96,20 @@ returns-clause-page g c = λ lines links st hosts all stay.
     c.in_ok-fresh.ensures.after.grows (rw (c.deref.ensures, c.deref-2.ensures.value) at c.in_ok-fresh.ensures.made) c.good.ensures in
     let change = changed c.in_ok-fresh.fresh.change in
     let told : Tells s.lines s.links None s.heard m change = rw (c.deref.ensures, c.deref-2.ensures.value) at c.in_ok-fresh.ensures.told in
-    let carried = (rw (c.deref-3.ensures, c.deref-4.ensures, c.in_ok-renewed.ensures.ok) at c.in_ok-ops.ensures) (page_in s) (compares_there lines links s c.renew.new.hearing.heard m change st made told) in
+    let carried = (rw (c.deref-3.ensures, c.deref-4.ensures, c.in_ok-renewed.ensures.ok) at c.in_ok-ops.ensures.carries) (page_in s) (compares_there lines links s c.renew.new.hearing.heard m change st made told) in
     let os = map op_of c.in_ok-ops.ops.items in
     let next = c.carry.new.nodes.next in
     let number = number_at c.carry.new.nodes.numbers in
+    let line = line_at c.carry.new.nodes.numbers in
+    let there : Compares (page_in s) (block c.deref-3.result.now) (kept c.deref-4.result.now.memo) (changed c.deref-4.result.now.change) s.number s.tree s.next =
+    rw (c.deref-3.ensures, c.deref-4.ensures, c.in_ok-renewed.ensures.ok) (compares_there lines links s c.renew.new.hearing.heard m change st made told) in
+    let same_shape : lines_shape (block c.deref-3.result.now) (kept c.deref-4.result.now.memo) ≡ lines_shape s.lines m =
+    rw (c.deref-3.ensures, c.deref-4.ensures, c.in_ok-renewed.ensures.ok) refl in
+    let lined = subst (λ z. AreLined (renumbered (page_in s) z) line) same_shape (c.in_ok-ops.ensures.lines (page_in s) there st.lined) in
     let same = ap kept (rw (c.memo_in.ensures, c.in_ok-renewed.ensures.ok) at c.in_ok-memo.ensures.ok) in
-    ap (λ z. page_in (next_of s c.renew.new.hearing.heard z next c.carry.new.nodes.tree number)) same
-    ∙ (is_carried _ _ _ _ lines links [] c.renew.new.hearing.heard s m next c.carry.new.nodes.tree number os hosts refl
-    (then_heard _ _ _ _ _ _ _ _ _ (front_heard _ _ _ _ _ s.heard c.in-Some.front c.in-Some.is c.in_ok-front.ensures.after) c.in_ok-fresh.ensures.after) all stay st made carried).page
+    ap (λ z. page_in (next_of s c.renew.new.hearing.heard z next c.carry.new.nodes.tree number line)) same
+    ∙ (is_carried _ _ _ _ lines links [] c.renew.new.hearing.heard s m next c.carry.new.nodes.tree number line os hosts refl
+    (then_heard _ _ _ _ _ _ _ _ _ (front_heard _ _ _ _ _ s.heard c.in-Some.front c.in-Some.is c.in_ok-front.ensures.after) c.in_ok-fresh.ensures.after) all stay st made carried lined).page
 
 pub returns-clause-ops : goal.returns-clause-ops
 returns-clause-ops g c = λ lines links st hosts all stay.
@@ -104,12 +120,18 @@ returns-clause-ops g c = λ lines links st hosts all stay.
     c.in_ok-fresh.ensures.after.grows (rw (c.deref.ensures, c.deref-2.ensures.value) at c.in_ok-fresh.ensures.made) c.good.ensures in
     let change = changed c.in_ok-fresh.fresh.change in
     let told : Tells s.lines s.links None s.heard m change = rw (c.deref.ensures, c.deref-2.ensures.value) at c.in_ok-fresh.ensures.told in
-    let carried = (rw (c.deref-3.ensures, c.deref-4.ensures, c.in_ok-renewed.ensures.ok) at c.in_ok-ops.ensures) (page_in s) (compares_there lines links s c.renew.new.hearing.heard m change st made told) in
+    let carried = (rw (c.deref-3.ensures, c.deref-4.ensures, c.in_ok-renewed.ensures.ok) at c.in_ok-ops.ensures.carries) (page_in s) (compares_there lines links s c.renew.new.hearing.heard m change st made told) in
     let os = map op_of c.in_ok-ops.ops.items in
     let next = c.carry.new.nodes.next in
     let number = number_at c.carry.new.nodes.numbers in
-    (is_carried _ _ _ _ lines links [] c.renew.new.hearing.heard s m next c.carry.new.nodes.tree number os hosts refl
-    (then_heard _ _ _ _ _ _ _ _ _ (front_heard _ _ _ _ _ s.heard c.in-Some.front c.in-Some.is c.in_ok-front.ensures.after) c.in_ok-fresh.ensures.after) all stay st made carried).ops
+    let line = line_at c.carry.new.nodes.numbers in
+    let there : Compares (page_in s) (block c.deref-3.result.now) (kept c.deref-4.result.now.memo) (changed c.deref-4.result.now.change) s.number s.tree s.next =
+    rw (c.deref-3.ensures, c.deref-4.ensures, c.in_ok-renewed.ensures.ok) (compares_there lines links s c.renew.new.hearing.heard m change st made told) in
+    let same_shape : lines_shape (block c.deref-3.result.now) (kept c.deref-4.result.now.memo) ≡ lines_shape s.lines m =
+    rw (c.deref-3.ensures, c.deref-4.ensures, c.in_ok-renewed.ensures.ok) refl in
+    let lined = subst (λ z. AreLined (renumbered (page_in s) z) line) same_shape (c.in_ok-ops.ensures.lines (page_in s) there st.lined) in
+    (is_carried _ _ _ _ lines links [] c.renew.new.hearing.heard s m next c.carry.new.nodes.tree number line os hosts refl
+    (then_heard _ _ _ _ _ _ _ _ _ (front_heard _ _ _ _ _ s.heard c.in-Some.front c.in-Some.is c.in_ok-front.ensures.after) c.in_ok-fresh.ensures.after) all stay st made carried lined).ops
 
 pub returns-clause-settles : goal.returns-clause-settles
 returns-clause-settles g c = λ lines links st.
