@@ -1,3 +1,4 @@
 pub mod Acts
 pub mod Rewires
 pub mod Labels
+pub mod Alone

@@ -31,8 +31,8 @@ use sig_host::{EqualsRule, Lent, Shelf};
 use sig_owner::CleanupAct;
 use sig_untrack::{Act, Body};
 
-// The value that a scalar is.
-fn value_like(scalar: &Scalar) -> Result<Value, NoMemory>
+/// The value that a scalar is.
+pub(crate) fn value_like(scalar: &Scalar) -> Result<Value, NoMemory>
     ensures { IfOk result (λ v. v ≡ scalar_value scalar.now) }
 {
     let scalar = scalar.copy()?;

@@ -1,5 +1,5 @@
 // An effect changes signals.
-ghost use Rattle.std.specs.Prelude.{◌<◌, ◌^◌, List, OnOk, length, map};
+ghost use Rattle.std.specs.Prelude.{◌≡◌, ◌<◌, ◌^◌, List, OnOk, length, map};
 ghost use Rattle.effect_model.specs.Acts.{set_cell};
 ghost use Rattle.sig_host.specs.Hosts.{HostPlace};
 ghost use Rattle.sig_effect.specs.Stores.{AreRuled};
@@ -27,8 +27,9 @@ pub fn set(
 ) -> Result<(), NoMemory>
     requires ruled { AreRuled (length rules.now) world.old.graph.state.signals }
     requires worn { world.old.graph.state.worn < 2 ^ 127 }
-    ensures { (asked : List HostPlace) → Agrees asked world.old → OnOk result (Acted (map (λ r. r.slack) rules.now)
+    ensures done { (asked : List HostPlace) → Agrees asked world.old → OnOk result (Acted (map (λ r. r.slack) rules.now)
         (scene world.old asked events.old.items) (scene world.new asked events.new.items) any_hosts any_hosts 1 (λ env. set_cell env id value)) }
+    ensures tables { (asked : List HostPlace) → Agrees asked world.old → OnOk result (world.new.tables ≡ world.old.tables) }
 {
     world.set_signal(rules, id, value, events)?;
     Ok(())

@@ -2,6 +2,7 @@
 #![tactic(auto)]
 
 mod act;
+mod alone;
 mod cells;
 mod changes;
 mod children;
@@ -13,6 +14,7 @@ mod recipes;
 mod sequence;
 
 pub use act::do_act;
+pub use alone::do_alone;
 pub use cells::set;
 pub use changes::Change;
 pub use children::make_child;

@@ -27,7 +27,7 @@ use Rattle.effect_model.specs.Acts.{asks_so_far, with_drop, with_use, is_free, h
 use Rattle.effect_model.specs.Acts.{rewire_standing, rewire_signal, without_node, end_standing, end_of, undo, undo_all, take_back, dispose_live, dispose_thing}
 use Rattle.effect_model.specs.Batches.{Batch, abort, give_back, is_other, replaced_by, set_quietly, with_replacing}
 use Rattle.effect_model.specs.Runs.{do_act, keep_reads, do_result, run_effect, turn, flush}
-use Rattle.effect_model.specs.Commands.{Command, cell, computed, owner, effect, page, watcher, watch, unwatch, set, set_untold, restore, tell_together, rewire, ask}
+use Rattle.effect_model.specs.Commands.{Command, cell, computed, owner, effect, page, watcher, watch, unwatch, set, set_untold, restore, tell_together, rewire, ask, log}
 use Rattle.effect_model.specs.Commands.{dispose, flush_all}
 use Rattle.effect_model.specs.Commands.{inside_refused, with_new_computed, told_if, command_refused, done_by, after_command, after_commands}
 use Rattle.effect_laws.specs.Counts.{others}
@@ -483,6 +483,7 @@ done_keeps env P k (restore b) w h p = abort_keeps P k.acts.edits b w p
 done_keeps env P k (tell_together ns) w h p = notify_keeps P ns w p
 done_keeps env P k (rewire n r) w h p = rewire_keeps_core P k.acts.edits n r w p
 done_keeps env P k (ask names) w h p = settle_keeps_core env P k.acts names w p
+done_keeps env P k (log v) w h p = tells_none P w (logged v ∷ []) refl refl refl p
 done_keeps env P k (dispose t) w h p = dispose_keeps_core env P k.acts.edits t w p
 done_keeps env P k flush_all w h p = told_if_keeps P (flush env w).refused (flush env w).world (flush_keeps_core env P k.acts w p)
 

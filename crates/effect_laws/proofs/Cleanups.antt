@@ -21,7 +21,7 @@ use Rattle.effect_model.specs.Acts.{with_use, rewiring_refused, rewire_standing,
 use Rattle.effect_model.specs.Acts.{take_back, dispose_live, dispose_thing}
 use Rattle.effect_model.specs.Batches.{Batch, abort, give_back, is_other, replaced_by, set_quietly, with_replacing}
 use Rattle.effect_model.specs.Runs.{do_act, keep_reads, do_result, run_effect, flush}
-use Rattle.effect_model.specs.Commands.{Command, cell, computed, owner, effect, page, watcher, watch, unwatch, set, set_untold, restore, tell_together, rewire, ask}
+use Rattle.effect_model.specs.Commands.{Command, cell, computed, owner, effect, page, watcher, watch, unwatch, set, set_untold, restore, tell_together, rewire, ask, log}
 use Rattle.effect_model.specs.Commands.{dispose, flush_all}
 use Rattle.effect_model.specs.Commands.{new_world, with_new_computed, told_if, command_refused, done_by, after_command, after_commands}
 use Rattle.effect_laws.proofs.Names.{either_way}
@@ -254,6 +254,7 @@ done_closed env w (restore b) c = λ t. abort_open b w t ∙ c t
 done_closed env w (tell_together ns) c = λ t. notify_open ns w t ∙ c t
 done_closed env w (rewire n r) c = λ t. rewire_open n r w t ∙ c t
 done_closed env w (ask names) c = λ t. settle_open env names w t ∙ c t
+done_closed env w (log v) c = λ t. open_append t 0 w.told _ ∙ c t
 done_closed env w (dispose h) c = dispose_closed env h w c
 done_closed env w flush_all c = told_closed (flush env w).refused (flush env w).world (flush_keeps env Closed (turns_closed env) 100 w c)
 

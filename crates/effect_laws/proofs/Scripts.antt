@@ -8,10 +8,10 @@ use Rattle.signal_model.specs.Recipes.{Recipe}
 use Rattle.signal_model.specs.Signals.{Cell, Computed}
 use Rattle.effect_model.specs.Owners.{Thing, the_signal, the_owner, the_effect, the_page, the_watcher, same_thing, made_inside}
 use Rattle.effect_model.specs.Bodies.{Body}
-use Rattle.effect_model.specs.Worlds.{Environment, Watcher, thing_gone, still_due, refused, World, lives}
+use Rattle.effect_model.specs.Worlds.{Environment, Watcher, thing_gone, still_due, refused, logged, World, lives}
 use Rattle.effect_model.specs.Acts.{forget, host_of, host_refused, some_gone}
 use Rattle.effect_model.specs.Runs.{flush}
-use Rattle.effect_model.specs.Commands.{Command, cell, computed, owner, effect, page, watcher, watch, unwatch, set, set_untold, restore, tell_together, rewire, ask}
+use Rattle.effect_model.specs.Commands.{Command, cell, computed, owner, effect, page, watcher, watch, unwatch, set, set_untold, restore, tell_together, rewire, ask, log}
 use Rattle.effect_model.specs.Commands.{dispose, flush_all}
 use Rattle.effect_model.specs.Commands.{new_world, inside_refused, with_new_cell, with_new_computed, with_new_owner, with_new_effect, with_new_page}
 use Rattle.effect_model.specs.Commands.{with_new_watcher, armed, changed_watcher, told_if, command_refused, done_by, after_command, after_commands}
@@ -143,6 +143,7 @@ done_tidy env w (restore b) h t = abort_tidy b w [] t
 done_tidy env w (tell_together ns) h t = notify_tidy ns w [] t
 done_tidy env w (rewire n r) h t = rewire_signal_tidy n r w [] t
 done_tidy env w (ask names) h t = settle_tidy env names w [] t
+done_tidy env w (log v) h t = tell_tidy w [] (logged v) tt t
 done_tidy env w (dispose x) h t = dispose_tidy env x w t
 done_tidy env w flush_all h t = told_tidy (flush env w).refused (flush env w).world (flush_tidy env w t)
 

@@ -7,7 +7,7 @@ use Rattle.signal_model.specs.Signals.{is_in, changed}
 use Rattle.signal_model.specs.Changes.{no_signals, no_memos, with_cell, with_computed, after_making}
 use Rattle.effect_model.specs.Owners.{Thing, the_signal, the_owner, the_effect, the_page, the_watcher, nothing, made_inside}
 use Rattle.effect_model.specs.Bodies.{Body}
-use Rattle.effect_model.specs.Worlds.{Environment, unused, Watcher, Refused, still_due, refused, World, tell, settle}
+use Rattle.effect_model.specs.Worlds.{Environment, unused, Watcher, Refused, still_due, refused, logged, World, tell, settle}
 use Rattle.effect_model.specs.Acts.{set_cell, rewire_signal, dispose_thing, host_of, with_use, host_refused, gone_refused, some_gone, or_refused}
 use Rattle.effect_model.specs.Acts.{forget, notify_of_all}
 use Rattle.effect_model.specs.Batches.{Batch, set_quietly, abort}
@@ -34,6 +34,8 @@ pub data Command : Type 0 where
   rewire : ℕ → Recipe → Command
   -- these signals are asked for; what is gone may be among them
   ask : List ℕ → Command
+  -- a value is logged
+  log : Value → Command
   dispose : Thing → Command
   flush_all : Command
 
@@ -151,6 +153,7 @@ done_by env (restore b) w = abort b w
 done_by env (tell_together ns) w = notify_of_all ns w
 done_by env (rewire n r) w = rewire_signal n r w
 done_by env (ask names) w = settle env names w
+done_by env (log v) w = tell (logged v) w
 done_by env (dispose t) w = dispose_thing env t w
 done_by env flush_all w = let f = flush env w in told_if f.refused f.world
 

@@ -3,6 +3,7 @@ pub mod Lines
 pub mod Bodies
 pub mod Worlds
 pub mod Acts
+pub mod Alone
 pub mod Runs
 pub mod Watchers
 pub mod Commands

@@ -4,11 +4,11 @@ use Rattle.std.proofs.lemmas.List.{append-nil}
 use Rattle.std.specs.Option.{option_or}
 use Rattle.sig_base.specs.declared.value.Value.{Value}
 use Rattle.signal_model.specs.Recipes.{Recipe}
-use Rattle.effect_model.specs.Bodies.{Body}
+use Rattle.effect_model.specs.Bodies.{Body, to_log}
 use Rattle.effect_model.specs.Owners.{Thing, the_signal, the_owner, the_effect, the_page, the_watcher}
 use Rattle.effect_model.specs.Worlds.{Environment, Event, Refused, refused, still_due, Watcher, World, tell, lives, at_rest}
 use Rattle.effect_model.specs.Acts.{forget, gone_refused, host_of, host_refused, or_refused, some_gone, with_use}
-use Rattle.effect_model.specs.Commands.{Command, cell, computed, owner, effect, page, watcher, watch, unwatch, set_untold, restore, tell_together, rewire, ask, dispose, flush_all, after_command, armed, changed_watcher, command_refused, done_by, inside_refused, told_if, with_new_cell, with_new_computed, with_new_effect, with_new_owner, with_new_page, with_new_watcher}
+use Rattle.effect_model.specs.Commands.{Command, cell, computed, owner, effect, page, watcher, watch, unwatch, set_untold, restore, tell_together, rewire, ask, log, dispose, flush_all, after_command, armed, changed_watcher, command_refused, done_by, inside_refused, told_if, with_new_cell, with_new_computed, with_new_effect, with_new_owner, with_new_page, with_new_watcher}
 use Rattle.effect_model.specs.Commands as command
 use Rattle.effect_model.specs.Runs.{flush}
 use Rattle.effect_laws.specs.Events.{OnlyTells}
@@ -125,6 +125,7 @@ refusal_rests (restore b) w = refl
 refusal_rests (tell_together ns) w = refl
 refusal_rests (rewire n r) w = refl
 refusal_rests (ask names) w = refl
+refusal_rests (log v) w = refl
 refusal_rests (dispose t) w = refl
 refusal_rests flush_all w = refl
 
@@ -168,6 +169,7 @@ done_rests env (restore b) = all_rest.restoring b
 done_rests env (tell_together ns) = all_rest.notifying ns
 done_rests env (rewire n r) = all_rest.rewiring n r
 done_rests env (ask names) = all_rest.settling env names
+done_rests env (log v) = all_rest.acting env 0 0 (to_log v)
 done_rests env (dispose t) = all_rest.disposing env t
 done_rests env flush_all = flush_rests env
 

@@ -2,7 +2,7 @@
 use Rattle.std.specs.Prelude.{ℕ, Bool, true, List, [], map, length, Option, Some, None, option_map, if◌then◌else◌}
 use Rattle.std.specs.Rc.{rc_value}
 use Rattle.signal_model.specs.Signals.{is_in}
-use Rattle.effect_model.specs.Owners.{Owned, nothing, thing, cleanup, is_holder}
+use Rattle.effect_model.specs.Owners.{Owned, nothing, thing, cleanup}
 use Rattle.effect_model.specs.Worlds as plain
 use Rattle.effect_model.specs.Worlds.{World}
 use Rattle.sig_owner.specs.Trees.{owned_of}

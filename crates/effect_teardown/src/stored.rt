@@ -1,6 +1,6 @@
 // Steps of taking back in the store.
 ghost use Rattle.std.specs.Prelude.{◌≡◌, ◌∷◌, [], true, IfOk};
-ghost use Rattle.effect_model.specs.Owners.{disposal_of, emptied, ends, nothing, taken_out, teardown_of, under, is_holder};
+ghost use Rattle.effect_model.specs.Owners.{disposal_of, emptied, ends, nothing, taken_out, teardown_of, under};
 ghost use Rattle.sig_owner.specs.Tables.{live_at, thing_at, thing_of};
 ghost use Rattle.sig_owner.specs.Trees.{owned_of};
 ghost use Rattle.sig_owner.specs.Walks.{undoings_of};

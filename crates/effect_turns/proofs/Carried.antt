@@ -25,7 +25,7 @@ use Rattle.effect_world.specs.Costs.{weight}
 use Rattle.effect_world.specs.Wholes.{stores_of, whole_of}
 use Rattle.effect_world.proofs.Shared.{owned_still, settle_done}
 use Rattle.effect_acts.specs.Acts.{Acted}
-use Rattle.effect_turns.specs.Runs.{CanRun, Runs, Spends}
+use Rattle.effect_turns.specs.Runs.{CanHear, CanRun, Runs, Spends}
 
 -- ---- the same act in other words
 
@@ -229,3 +229,10 @@ runs_any slacks old new answers act r = record {
   given = r.given;
   made = r.made;
 }
+
+-- where effects may run, a body may be evaluated
+pub can_hear : (x : Scene) → CanRun x → CanHear x
+can_hear x c =
+    let w = c.weight in
+    let r = c.room in
+    record { agrees = c.agrees; weight = omega (arith, w); room = omega (arith, r) }

@@ -87,7 +87,7 @@ asked_none : (place : ℕ) (ss : List HostState) → asked_by [] place ss ≡ ss
 asked_none place [] = refl
 asked_none place (s ∷ ss) = λ i. more_none s i ∷ asked_none (suc place) ss i
 
-settle_none : (env : plain.Environment) (w : plain.World) → settle env [] w ≡ w
+pub settle_none : (env : plain.Environment) (w : plain.World) → settle env [] w ≡ w
 settle_none env w = λ i. record w { host_states = asked_none 0 w.host_states i; told = append-nil w.told i }
 
 nothing_run : (env : plain.Environment) (id : ℕ) (w : plain.World) → keep_reads id [] w ≡ run_body env id (body_evaluation env.hosts w.signals no_body) w

@@ -5,4 +5,5 @@ mod Ends
 mod Glanced
 mod Joined
 mod Loops
+mod Alone
 pub mod Shared

@@ -30,3 +30,9 @@ pub record CanRun (x : Scene) : Type 0 where
   pub agrees : Agrees x.asked x.world
   pub weight : weight x.world < 2 ^ 124 + 128 * length x.events
   pub room : most_asked x.asked < 2 ^ 124 + 128 * length x.events
+
+-- A body may be evaluated: likewise, where no counter has come further than an eighth of its range and what was told.
+pub record CanHear (x : Scene) : Type 0 where
+  pub agrees : Agrees x.asked x.world
+  pub weight : weight x.world < 2 ^ 125 + 128 * length x.events
+  pub room : most_asked x.asked < 2 ^ 125 + 128 * length x.events

@@ -1,5 +1,5 @@
 // An effect runs.
-ghost use Rattle.std.specs.Prelude.{◌<◌, ◌≤◌, ◌+◌, ◌^◌, ℕ, List, None, IfOk, OnOk, length, map};
+ghost use Rattle.std.specs.Prelude.{◌≡◌, ◌<◌, ◌≤◌, ◌+◌, ◌^◌, ℕ, List, None, IfOk, OnOk, length, map};
 ghost use Rattle.std.specs.Rc.{rc_value};
 ghost use Rattle.signal_model.specs.Recipes.{Hosts};
 ghost use Rattle.signal_model.specs.Sound.{names_of};
@@ -21,7 +21,7 @@ ghost use Rattle.effect_runs.specs.Evaluations.{body_seen, result_of, IsRunOf, I
 ghost use Rattle.effect_world.specs.Signals.{any_hosts, scene};
 ghost use Rattle.effect_world.specs.Stores.{Agrees, AreOwned, IsSound};
 ghost use Rattle.effect_world.specs.Costs.{weight};
-ghost use Rattle.effect_turns.specs.Runs.{CanRun, Runs, Spends};
+ghost use Rattle.effect_turns.specs.Runs.{CanHear, CanRun, Runs, Spends};
 ghost use Rattle.effect_tables.specs.Visits.{rerun};
 
 use effect_acts::{do_acts, fail, keep_reads};
@@ -59,15 +59,20 @@ fn take_back(
     }
 }
 
-// Evaluates a body, and settles what it reads.
-fn evaluate(
+/// Evaluates a body, and settles what it reads. What it comes to, what was settled, and how far events and counters came are told apart, as these
+/// need different things.
+///
+/// # Errors
+///
+/// After `NoMemory` world and shelf may only be dropped.
+pub(crate) fn evaluate(
     world: &mut World,
     shelf: &mut Shelf,
     body: &Body,
     links: &Links,
     events: &mut Vec<Event>,
 ) -> Result<BodyRun, NoMemory>
-    requires can { CanRun (scene world.old (⟦<Shelf as Lent>⟧.asked shelf.old) events.old.items) }
+    requires can { CanHear (scene world.old (⟦<Shelf as Lent>⟧.asked shelf.old) events.old.items) }
     requires counted { ⟦<Shelf as Lent>⟧.counted shelf.old }
     requires fits { FitsNames (length (out-Links links.now).names.items) (statements_of (before body.now no_bodies)) }
     ensures run { (hosts : Hosts) (p : Parts) → ⟦<Shelf as Lent>⟧.answers hosts shelf.old → IsSound hosts (⟦<Shelf as Lent>⟧.asked shelf.old) world.old → IfOk result (IsRunOf p
@@ -77,6 +82,8 @@ fn evaluate(
         (λ hosts. ⟦<Shelf as Lent>⟧.answers hosts shelf.old) (λ hosts. ⟦<Shelf as Lent>⟧.answers hosts shelf.new)
         (λ env. settle env (names_of (body_evaluation env.hosts world.old.graph.state.signals
         (body_seen p body.now (out-Links links.now).names.items)).reads))) }
+    ensures tables { OnOk result (world.new.tables ≡ world.old.tables) }
+    ensures told { OnOk result (length events.old.items ≤ length events.new.items) }
     ensures few { IfOk result (λ r. IsShort MOST_STATEMENTS r.end) }
     ensures spent { OnOk result (Spends
         (scene world.old (⟦<Shelf as Lent>⟧.asked shelf.old) events.old.items) (scene world.new (⟦<Shelf as Lent>⟧.asked shelf.new) events.new.items)) }

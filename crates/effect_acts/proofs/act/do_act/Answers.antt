@@ -22,7 +22,7 @@ returns-in_ok-set-in-Set-clause-done g c =
     (λ env. (λ i. set_cell env (cell_meant (rc_value c.args.site.now.script) c.args.site.now.path.items c.args.body.now c.args.links.now c.requires.part c.args.site.now.origin c.in-Set.target c.cell_at-cell.result
     (c.cell_at-cell.ensures ∙ ap (λ xs. signal_number (target_thing c.args.site.now.origin (slice_get xs c.in-Set.target))) c.deref.ensures.value) i) (c.in_ok-value-in-Set.ensures i))
     ∙ ap (λ a. do_act env c.args.id c.args.label (act_of p a)) (sym c.in-Set.is))
-    (omega arith) (c.in_ok-set-in-Set.ensures _ c.requires.agrees)
+    (omega arith) (c.in_ok-set-in-Set.ensures.done _ c.requires.agrees)
 
 pub returns-in_ok-log-in-Log-clause-done : goal.returns-in_ok-log-in-Log-clause-done
 returns-in_ok-log-in-Log-clause-done g c =

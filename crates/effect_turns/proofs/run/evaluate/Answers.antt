@@ -3,7 +3,7 @@ use Rattle.signal_model.specs.Sound.{names_of}
 use Rattle.effect_model.specs.Bodies.{body_evaluation}
 use Rattle.effect_runs.specs.Evaluations.{body_seen, IsRunOf}
 use Rattle.effect_world.specs.declared.world.World.{World}
-use Rattle.effect_turns.proofs.Carried.{settled_runs, settled_spends}
+use Rattle.effect_turns.proofs.Carried.{longer, settled_runs, settled_spends}
 use Rattle.effect_turns.proofs.Joined.{seen_runs}
 use Rattle.effect_turns.proofs.Counted.{any_parts, shorter}
 use Rattle.effect_turns.proofs.run.evaluate.Goals as goal
@@ -28,3 +28,6 @@ pub returns-clause-spent : goal.returns-clause-spent
 returns-clause-spent g c =
     let new : World = record { graph = c.evaluate_body.new.graph; watchers = c.args.world.now.watchers; tables = c.args.world.now.tables } in
     settled_spends c.args.world.now new _ _ _ _ _ _ _ _ _ c.new-notes.ensures.items c.in_ok-tell_runs.ensures refl (c.in_ok-run.ensures.after any_parts)
+
+pub returns-clause-told : goal.returns-clause-told
+returns-clause-told g c = longer _ _ _ c.in_ok-tell_runs.ensures

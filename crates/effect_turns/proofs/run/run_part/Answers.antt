@@ -3,10 +3,13 @@ use Rattle.std.specs.Rc.{rc_value}
 use Rattle.effect_teardown.specs.Sites.{parts_of}
 use Rattle.effect_tables.specs.declared.links.Links.TheViews.{out-Links}
 use Rattle.effect_teardown.proofs.SharedSites.{part_fits, part_seen}
-use Rattle.effect_turns.proofs.Carried.{low_after, run_spends}
+use Rattle.effect_turns.proofs.Carried.{can_hear, low_after, run_spends}
 use Rattle.effect_turns.proofs.Counted.{any_parts}
 use Rattle.effect_turns.proofs.Joined.{run_joined}
 use Rattle.effect_turns.proofs.run.run_part.Goals as goal
+
+pub evaluate-requires-clause-can : goal.evaluate-requires-clause-can
+evaluate-requires-clause-can g c = can_hear _ c.requires.can
 
 pub evaluate-requires-clause-fits : goal.evaluate-requires-clause-fits
 evaluate-requires-clause-fits g c = part_fits _ _ _ _ c.requires.part c.requires.fits
