@@ -1,0 +1,3 @@
+mod Waits
+mod Ways
+pub mod Shared
