@@ -8,7 +8,7 @@ use Rattle.why_model.specs.declared.causes.Cause.TheVariants as cause
 use Rattle.why_model.specs.declared.causes.Link.{Link}
 use Rattle.effect_model.specs.declared.how.How.{How}
 use Rattle.why_model.specs.Facts as plain
-use Rattle.why_model.specs.Facts.{Found, was_changed, has_run, last_run, last_number, moves, rewires}
+use Rattle.why_model.specs.Facts.{Found, last_run, last_number, moves, rewires}
 use Rattle.why_model.specs.Chains.{first_moved, cause_since, cause_after, cause_of, moved_by, links_at, links_from, links_of, chain}
 use Rattle.sig_computed.specs.declared.notes.RunNote.{RunNote}
 use Rattle.live_why.specs.declared.facts.Fact.{Fact}

@@ -7,7 +7,7 @@ use sig_base::{NoMemory, NodeId};
 use std::alloc::Global;
 
 /// Numbers of facts about a signal, 0 for none: its last run, the last that rewired it, and the last that moved it.
-#[derive(Clone, Copy, Debug)]
+#[derive(Clone, Copy)]
 pub(crate) struct Marks {
     pub run: usize,
     pub rewired: usize,

@@ -6,7 +6,9 @@ mod facts;
 mod index;
 mod journal;
 mod ledger;
+mod recorder;
 
 pub use errors::JournalFault;
 pub use facts::Fact;
 pub use journal::Journal;
+pub use recorder::Recorder;

@@ -4,3 +4,4 @@ mod AfterChanges
 mod AfterRuns
 mod Rounds
 mod Recording
+mod Beginnings

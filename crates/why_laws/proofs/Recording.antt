@@ -17,6 +17,7 @@ use Rattle.effect_laws.specs.KeptWorlds.{noted_told}
 use Rattle.effect_laws.proofs.Shared.{Core, core_of, IsKeptByChanges, commands_keep}
 use Rattle.why_model.specs.Facts.{Fact, was_changed}
 use Rattle.why_model.specs.Told.{run_fact, facts_told}
+use Rattle.why_model.proofs.Shared.{facts_append}
 use Rattle.why_laws.specs.Ties.{AreTied}
 use Rattle.why_laws.specs.WhyLaws.{AreExplained}
 use Rattle.why_laws.specs.Journals.{AllExplained, JournalLaw}
@@ -25,18 +26,12 @@ use Rattle.why_laws.proofs.AfterRuns.{tied_settle_law, runs_law}
 
 -- ---- facts of events
 
-facts_append : (es fs : List Event) → facts_told (es ++ fs) ≡ facts_told es ++ facts_told fs
-facts_append [] fs = refl
-facts_append (ran m ∷ es) fs = ap (λ xs. run_fact m.run ∷ xs) (facts_append es fs)
-facts_append (changed_signal n how ∷ es) fs = ap (λ xs. was_changed n how ∷ xs) (facts_append es fs)
-facts_append (_ ∷ es) fs = facts_append es fs
-
-facts_moments : (w : Signals) (rs : List Run) → facts_told (map ran (moments w rs)) ≡ map run_fact rs
+pub facts_moments : (w : Signals) (rs : List Run) → facts_told (map ran (moments w rs)) ≡ map run_fact rs
 facts_moments w [] = refl
 facts_moments w (r ∷ rs) = ap (λ xs. run_fact r ∷ xs) (facts_moments w rs)
 
 -- what isn't noted has no fact
-facts_noted : (es : List Event) → facts_told (noted_told es) ≡ facts_told es
+pub facts_noted : (es : List Event) → facts_told (noted_told es) ≡ facts_told es
 facts_noted [] = refl
 facts_noted (ran m ∷ es) = ap (λ xs. run_fact m.run ∷ xs) (facts_noted es)
 facts_noted (changed_signal n how ∷ es) = ap (λ xs. was_changed n how ∷ xs) (facts_noted es)
@@ -79,11 +74,11 @@ moments_explained env w k asked kept journal (r ∷ rs) h = (
 -- ---- what changes keep
 
 -- the memos are kept, and the names given; what was noted is tied to the memos, and explains each run
-record Recorded (env : Environment) (c : Core) : Type 0 where
-  kept : AreKept env.hosts c.signals c.memos
-  names : AreGiven (given_below c.made.signals) c.signals c.memos
-  tied : AreTied (given_below c.made.signals) c.memos (reverse (facts_told c.noted))
-  explained : AllExplained env [] c.noted
+pub record Recorded (env : Environment) (c : Core) : Type 0 where
+  pub kept : AreKept env.hosts c.signals c.memos
+  pub names : AreGiven (given_below c.made.signals) c.signals c.memos
+  pub tied : AreTied (given_below c.made.signals) c.memos (reverse (facts_told c.noted))
+  pub explained : AllExplained env [] c.noted
 
 -- a change explains nothing more
 with_change : (env : Environment) (es : List Event) (n : ℕ) (how : How) → AllExplained env [] es → AllExplained env [] (es ++ changed_signal n how ∷ [])
@@ -97,7 +92,7 @@ made_tied env c r =
     tied_more_law (given_below c.made.signals) (given_below (c.made.signals + 1)) (after_making c.memos c.made.signals) (reverse (facts_told c.noted)) next.stay
     (tied_make_law env.hosts (given_below c.made.signals) c.signals c.memos (reverse (facts_told c.noted)) c.made.signals r.kept r.names next.new r.tied)
 
-changes_record : (env : Environment) → IsKeptByChanges env (Recorded env)
+pub changes_record : (env : Environment) → IsKeptByChanges env (Recorded env)
 changes_record env = record {
   acts = record {
     edits = record {
@@ -169,17 +164,20 @@ changes_record env = record {
   makes_others = λ owners pages watchers c r. record { kept = r.kept; names = r.names; tied = r.tied; explained = r.explained };
 }
 
+-- nothing was noted at first
+pub none_recorded : (env : Environment) (n : ℕ) → Recorded env (core_of (new_world n))
+none_recorded env n = record {
+  kept = empty_law env.hosts;
+  names = given_empty_law (given_below 0);
+  tied = tied_empty_law (given_below 0);
+  explained = tt;
+}
+
 -- so it is after any commands
 pub journal_law : JournalLaw
 journal_law env n cs =
     let w : World = after_commands env (new_world n) cs in
-    let r : Recorded env (core_of w) =
-    commands_keep env (Recorded env) (changes_record env) cs (new_world n) (record {
-      kept = empty_law env.hosts;
-      names = given_empty_law (given_below 0);
-      tied = tied_empty_law (given_below 0);
-      explained = tt;
-    }) in
+    let r : Recorded env (core_of w) = commands_keep env (Recorded env) (changes_record env) cs (new_world n) (none_recorded env n) in
     record {
       tied = subst (λ xs. AreTied (given_below w.made.signals) w.memos (reverse xs)) (facts_noted w.told) r.tied;
       explained = explained_noted env [] w.told r.explained;

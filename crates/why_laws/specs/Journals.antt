@@ -1,5 +1,5 @@
 -- The journal of what was told.
-use Rattle.std.specs.Prelude.{ℕ, List, [], ◌∷◌, ◌++◌, reverse}
+use Rattle.std.specs.Prelude.{◌≡◌, ℕ, List, [], ◌∷◌, ◌++◌, reverse}
 use Rattle.signal_model.specs.Memos.{Memos}
 use Rattle.signal_model.specs.Asks.{Moment}
 use Rattle.signal_model.specs.Kept.{AreKept}
@@ -33,3 +33,8 @@ pub record IsRecorded (env : Environment) (w : World) : Type 0 where
 -- so it is after any commands
 abbrev pub JournalLaw : Type 0
 JournalLaw = (env : Environment) (n : ℕ) (cs : List Command) → IsRecorded env (after_commands env (new_world n) cs)
+
+-- where no signal was made nothing is noted, whatever else commands have made
+abbrev pub BeginningLaw : Type 0
+BeginningLaw = (env : Environment) (n : ℕ) (cs : List Command) → (after_commands env (new_world n) cs).made.signals ≡ 0 →
+    facts_told (after_commands env (new_world n) cs).told ≡ []

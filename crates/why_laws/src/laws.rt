@@ -1,5 +1,5 @@
 // Laws of the journal, for all hosts, signals, memos and facts, and for all lists of commands.
-ghost use Rattle.why_laws.specs.Journals.{JournalLaw};
+ghost use Rattle.why_laws.specs.Journals.{BeginningLaw, JournalLaw};
 ghost use Rattle.why_laws.specs.WhyLaws.{CausesLaw, MeetLaw, RoundLaw, RunsLaw, TiedDisposeLaw, TiedEmptyLaw, TiedMakeLaw, TiedMoreLaw, TiedRewireLaw, TiedSetLaw, TiedSettleLaw};
 
 /// A journal tells of each computed's memo, and of what has moved since: so it is at first, and each change and each settling keeps it.
@@ -36,4 +36,9 @@ pub fn round_law()
 /// Whatever commands and acts do, what they tell of changes and runs is a journal that explains each of the runs.
 pub fn journal_law()
     ensures { JournalLaw }
+{}
+
+/// Where no signal was made nothing is noted, so a journal that begins then has all that is noted.
+pub fn beginning_law()
+    ensures { BeginningLaw }
 {}
