@@ -2,14 +2,14 @@
 use Rattle.std.proofs.Common.{◌≡◌, ◌⊎◌, ◌<◌, ℕ, Bool, true, false, List, [], ◌∷◌, ◌++◌, length, refl, sym, ap, subst, ◌∙◌, inl, inr, arith}
 use Rattle.line_forms.specs.Forms.{Args}
 use Rattle.script_lines.specs.Lines.{NumberedLine}
-use Rattle.body_text.specs.Allowances.{effects}
+use Rattle.body_text.specs.Allowances.{effects, handlers}
 use Rattle.body_text.specs.Verdicts.{Answer}
 use Rattle.body_text.proofs.Shared.{one_answer, some_answer}
 use Rattle.tpl_syntax.specs.Templates as templates
 use Rattle.tpl_syntax.proofs.Shared as template_laws
 use Rattle.live_cmd.specs.declared.contents.Content.{Content}
-use Rattle.live_cmd.specs.Blocks.{Block, Ends, IsContent, IsContentOf, IsNoHead, block_item, effect_content, template_content, is_head}
-use Rattle.live_cmd.specs.Grammar.{Row, row, Said, Writes, effect, template, close}
+use Rattle.live_cmd.specs.Blocks.{Block, Ends, IsContent, IsContentOf, IsNoHead, block_item, body_content, effect_of, handler_of, template_content, is_head}
+use Rattle.live_cmd.specs.Grammar.{Row, row, Said, Writes, effect, on, template, close}
 use Rattle.live_cmd.specs.Items.{first_line, is_alone, IsNoCommand}
 use Rattle.live_cmd.proofs.Spellings.{none_such, one_writing, such_or_none}
 
@@ -44,7 +44,8 @@ with_last x (z ∷ zs) = let rest = with_last z zs in (x ∷ rest.0, rest.1, let
 -- ---- what stands in a block
 
 content_of : (r : Row) (a : Args (row r).1) (ls : List NumberedLine) (c d : Content) → IsContentOf r a ls c → IsContentOf r a ls d → c ≡ d
-content_of effect a ls c d h k = h.2 ∙ ap (λ (x : Answer). effect_content a.0 a.1.0 x) (one_answer effects ls h.0 k.0 h.1 k.1) ∙ sym k.2
+content_of effect a ls c d h k = h.2 ∙ ap (λ (x : Answer). body_content (effect_of a.0 a.1.0) x) (one_answer effects ls h.0 k.0 h.1 k.1) ∙ sym k.2
+content_of on a ls c d h k = h.2 ∙ ap (λ (x : Answer). body_content (handler_of a.0 a.1.0 a.1.1.0) x) (one_answer handlers ls h.0 k.0 h.1 k.1) ∙ sym k.2
 content_of template a ls c d h k =
     h.2 ∙ ap (λ (x : templates.Answer). template_content a.0 x) (template_laws.one_answer ls h.0 k.0 h.1 k.1) ∙ sym k.2
 content_of _ a ls c d h k = absurd h
@@ -58,7 +59,8 @@ one_content bytes x y ls ms c d v w e h k =
     content_of y.0 y.1 ms c d (subst (λ (ns : List NumberedLine). IsContent y ns c) e there) k
 
 pub some_content : (r : Row) (a : Args (row r).1) (ls : List NumberedLine) → is_head r ≡ true → (c : Content) × IsContentOf r a ls c
-some_content effect a ls h = let x = some_answer effects ls in (effect_content a.0 a.1.0 x.0, (x.0, x.1, refl))
+some_content effect a ls h = let x = some_answer effects ls in (body_content (effect_of a.0 a.1.0) x.0, (x.0, x.1, refl))
+some_content on a ls h = let x = some_answer handlers ls in (body_content (handler_of a.0 a.1.0 a.1.1.0) x.0, (x.0, x.1, refl))
 some_content template a ls h = let x = template_laws.some_answer ls in (template_content a.0 x.0, (x.0, x.1, refl))
 some_content _ a ls h = absurd cc
 
@@ -93,6 +95,7 @@ some_end bytes = elim (such_or_none (λ x. is_close x.0) bytes) [
 
 head_alone : (r : Row) (a : Args (row r).1) → is_head r ≡ true → is_alone (r, a) ≡ false
 head_alone effect a h = refl
+head_alone on a h = refl
 head_alone template a h = refl
 head_alone _ a h = absurd cc
 

@@ -18,7 +18,7 @@ use Rattle.script_lines.specs.Lines.{NumberedLine, behind_blanks, first_word, fr
 use Rattle.script_lines.specs.Pieces.{Place, outside, inside, begins_block, level_after, pieces, pieces_of}
 use Rattle.live_cmd.specs.declared.command.Bare.TheVariants as bares
 use Rattle.live_cmd.specs.declared.command.Verb.TheVariants as verbs
-use Rattle.live_cmd.specs.Grammar.{Row, row, Said, Writes, bare, effect, template, verb}
+use Rattle.live_cmd.specs.Grammar.{Row, row, Said, Writes, bare, effect, on, template, verb}
 use Rattle.live_cmd.specs.Items.{is_alone, IsSingle}
 
 -- ---- the first word of a line is that of its row
@@ -79,8 +79,9 @@ says_word bytes x w = first_of bytes w.tokens w.cut.last (row x.0).0 w.spelled.0
 
 -- ---- a command by itself begins no block
 
-alone_row : (r : Row) (a : Args (row r).1) → is_alone (r, a) ≡ true → (bytes_eq (row r).0 (codes "effect") || bytes_eq (row r).0 (codes "template")) ≡ false
+alone_row : (r : Row) (a : Args (row r).1) → is_alone (r, a) ≡ true → (bytes_eq (row r).0 (codes "effect") || bytes_eq (row r).0 (codes "template") || bytes_eq (row r).0 (codes "on")) ≡ false
 alone_row effect a h = absurd cc
+alone_row on a h = absurd cc
 alone_row template a h = absurd cc
 alone_row (verb verbs.Get) a h = refl
 alone_row (bare bares.Flush) a h = refl
@@ -89,7 +90,7 @@ alone_row _ a h = refl
 pub begins_none : (bytes : List ℕ) (x : Said) → Writes x bytes → is_alone x ≡ true → begins_block bytes ≡ false
 unfolding begins_block
 begins_none bytes x w h =
-    ap (λ (v : List ℕ). bytes_eq v (codes "effect") || bytes_eq v (codes "template")) (says_word bytes x w) ∙ alone_row x.0 x.1 h
+    ap (λ (v : List ℕ). bytes_eq v (codes "effect") || bytes_eq v (codes "template") || bytes_eq v (codes "on")) (says_word bytes x w) ∙ alone_row x.0 x.1 h
 
 -- ---- it is all of its piece
 

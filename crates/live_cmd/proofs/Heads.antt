@@ -8,7 +8,7 @@ use Rattle.live_cmd.specs.declared.contents.Head.{Head}
 use Rattle.live_cmd.specs.declared.line.Found.{Found}
 use Rattle.live_cmd.specs.declared.line.Line.{Line}
 use Rattle.live_cmd.specs.Blocks.{Ends, IsNoHead, is_head, said_head}
-use Rattle.live_cmd.specs.Grammar.{Row, row, Said, Writes, said_line, effect, template, close}
+use Rattle.live_cmd.specs.Grammar.{Row, row, Said, Writes, said_line, effect, on, template, close}
 use Rattle.live_cmd.specs.Refusals.{fault_of}
 use Rattle.live_cmd.specs.Views.{end_told, found_of, head_of, head_told, is_end, line_or_fault}
 use Rattle.live_cmd.proofs.Blocks.{no_close}
@@ -45,6 +45,7 @@ no_head (Some f) l e = refl
 
 head_row : (r : Row) (a : Args (row r).1) (bytes : List ℕ) → Writes (r, a) bytes → IsHead bytes (head_told (line_or_fault (r, a)))
 head_row effect a bytes w = w
+head_row on a bytes w = w
 head_row template a bytes w = w
 head_row r a bytes w =
     subst (λ (h : Option Head). IsHead bytes h) (sym (no_head (fault_of (r, a)) (said_line (r, a)) refl))

@@ -35,6 +35,7 @@ no_head_held ls first last inner e none b =
 -- the first line of a block begins one
 begun : (h : Head) → is_head (said_head h).0 ≡ true
 begun (heads.Effect n o) = refl
+begun (heads.On t k e) = refl
 begun (heads.Template n) = refl
 
 -- lines of which the first is a head are a block, which is what was read of it

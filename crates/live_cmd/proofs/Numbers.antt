@@ -10,14 +10,14 @@ use Rattle.body_text.specs.declared.fault.BodyFault.{BodyFault}
 use Rattle.body_text.specs.declared.fault.BodyWhy.{BodyWhy}
 use Rattle.body_text.specs.declared.fault.BodyWhy.TheVariants as why
 use Rattle.body_text.specs.declared.judge.TheConstants.{MOST_BODY_LINES}
-use Rattle.body_text.specs.Allowances.{effects}
 use Rattle.body_text.specs.Grammar as rows
 use Rattle.body_text.specs.Refusals.{fault_at, fault_of, first_excess, first_misplaced, judged, judged_at, many_lines, refusal_of}
 use Rattle.body_text.specs.Places.{kind_of, moved}
 use Rattle.body_text.specs.Verdicts.{Answer, IsFaulty, IsRead, Refuses, Say, Sayings, faulty, says, unended, unless_refused}
 use Rattle.body_text.specs.Statements.{body_of}
+use Rattle.live_cmd.specs.declared.command.Command.{Command}
 use Rattle.live_cmd.specs.declared.contents.Content.{Content}
-use Rattle.live_cmd.specs.Blocks.{body_refused, effect_content, is_memory}
+use Rattle.live_cmd.specs.Blocks.{body_content, body_refused, is_memory}
 use Rattle.live_cmd.specs.Views.{number_in}
 
 -- some line has this number
@@ -169,30 +169,30 @@ pub number_is : (ls : List NumberedLine) (k : ℕ) → IsNumber ls k → number_
 number_is ls k (inl h) = number_has ls k h
 number_is ls k (inr h) = rw h (number_zero ls)
 
--- what an answer makes of an effect
-abbrev pub IsMade : List NumberedLine → List ℕ → Option (List ℕ) → Content → Type 0
-IsMade ls n o c = (a : Answer) × IsRead effects ls a × (c ≡ effect_content n o a)
+-- what an answer makes of a body, where this may stand in it
+abbrev pub IsMade : Allowance → List NumberedLine → (Bodies → Command) → Content → Type 0
+IsMade allowed ls makes c = (a : Answer) × IsRead allowed ls a × (c ≡ body_content makes a)
 
-made_of : (ls : List NumberedLine) (at n : ℕ) (w : BodyWhy) (c : Content) (name : List ℕ) (o : Option (List ℕ)) → IsRead effects ls (Err (fault_at at w))
-    → c ≡ body_refused n w → body_refused n w ≡ body_refused at w → IsMade ls name o c
-made_of ls at n w c name o r e f = (Err (fault_at at w), r, e ∙ f)
+made_of : (allowed : Allowance) (ls : List NumberedLine) (at n : ℕ) (w : BodyWhy) (c : Content) (makes : Bodies → Command) → IsRead allowed ls (Err (fault_at at w))
+    → c ≡ body_refused n w → body_refused n w ≡ body_refused at w → IsMade allowed ls makes c
+made_of allowed ls at n w c makes r e f = (Err (fault_at at w), r, e ∙ f)
 
 -- lines that are no body make what their cause says
-pub refused_by : (ls : List NumberedLine) (at n : ℕ) (w : BodyWhy) (c : Content) (name : List ℕ) (o : Option (List ℕ))
-    → Refuses effects ls at w → is_memory w ≡ false → n ≡ number_in ls at → c ≡ body_refused n w → IsMade ls name o c
-refused_by ls at n why.Syntax c name o r m g e =
-    let is = g ∙ number_is ls at (fault_number effects ls _ (fault_at at why.Syntax) r refl refl) in
-    made_of ls at n why.Syntax c name o r e (ap (λ (k : ℕ). body_refused k why.Syntax) is)
-refused_by ls at n why.UntrackHere c name o r m g e =
-    let is = g ∙ number_is ls at (fault_number effects ls _ (fault_at at why.UntrackHere) r refl refl) in
-    made_of ls at n why.UntrackHere c name o r e (ap (λ (k : ℕ). body_refused k why.UntrackHere) is)
-refused_by ls at n why.ItHere c name o r m g e =
-    let is = g ∙ number_is ls at (fault_number effects ls _ (fault_at at why.ItHere) r refl refl) in
-    made_of ls at n why.ItHere c name o r e (ap (λ (k : ℕ). body_refused k why.ItHere) is)
-refused_by ls at n why.Nest c name o r m g e =
-    let is = g ∙ number_is ls at (fault_number effects ls _ (fault_at at why.Nest) r refl refl) in
-    made_of ls at n why.Nest c name o r e (ap (λ (k : ℕ). body_refused k why.Nest) is)
-refused_by ls at n why.Text c name o r m g e = made_of ls at n why.Text c name o r e refl
-refused_by ls at n why.Sources c name o r m g e = made_of ls at n why.Sources c name o r e refl
-refused_by ls at n why.Lines c name o r m g e = made_of ls at n why.Lines c name o r e refl
-refused_by ls at n (why.NoMemory x) c name o r m g e = absurd cc
+pub refused_by : (allowed : Allowance) (ls : List NumberedLine) (at n : ℕ) (w : BodyWhy) (c : Content) (makes : Bodies → Command)
+    → Refuses allowed ls at w → is_memory w ≡ false → n ≡ number_in ls at → c ≡ body_refused n w → IsMade allowed ls makes c
+refused_by allowed ls at n why.Syntax c makes r m g e =
+    let is = g ∙ number_is ls at (fault_number allowed ls _ (fault_at at why.Syntax) r refl refl) in
+    made_of allowed ls at n why.Syntax c makes r e (ap (λ (k : ℕ). body_refused k why.Syntax) is)
+refused_by allowed ls at n why.UntrackHere c makes r m g e =
+    let is = g ∙ number_is ls at (fault_number allowed ls _ (fault_at at why.UntrackHere) r refl refl) in
+    made_of allowed ls at n why.UntrackHere c makes r e (ap (λ (k : ℕ). body_refused k why.UntrackHere) is)
+refused_by allowed ls at n why.ItHere c makes r m g e =
+    let is = g ∙ number_is ls at (fault_number allowed ls _ (fault_at at why.ItHere) r refl refl) in
+    made_of allowed ls at n why.ItHere c makes r e (ap (λ (k : ℕ). body_refused k why.ItHere) is)
+refused_by allowed ls at n why.Nest c makes r m g e =
+    let is = g ∙ number_is ls at (fault_number allowed ls _ (fault_at at why.Nest) r refl refl) in
+    made_of allowed ls at n why.Nest c makes r e (ap (λ (k : ℕ). body_refused k why.Nest) is)
+refused_by allowed ls at n why.Text c makes r m g e = made_of allowed ls at n why.Text c makes r e refl
+refused_by allowed ls at n why.Sources c makes r m g e = made_of allowed ls at n why.Sources c makes r e refl
+refused_by allowed ls at n why.Lines c makes r m g e = made_of allowed ls at n why.Lines c makes r e refl
+refused_by allowed ls at n (why.NoMemory x) c makes r m g e = absurd cc

@@ -1,10 +1,11 @@
 -- Blocks whose lines have a grammar of their own: what they are, by what stands between their first line and their last.
 use Rattle.std.specs.Prelude.{◌≡◌, ◌++◌, ℕ, Bool, true, false, List, [], ◌∷◌, Option, Ok, Err}
 use Rattle.script_lines.specs.Lines.{NumberedLine}
+use Rattle.sig_untrack.specs.Stated.{Bodies}
 use Rattle.line_forms.specs.Forms.{Args}
 use Rattle.body_text.specs.declared.fault.BodyWhy.{BodyWhy}
 use Rattle.body_text.specs.declared.fault.BodyWhy.TheVariants as why
-use Rattle.body_text.specs.Allowances.{effects}
+use Rattle.body_text.specs.Allowances.{effects, handlers}
 use Rattle.body_text.specs.Verdicts.{Answer, IsRead}
 use Rattle.tpl_syntax.specs.declared.fault.TemplateWhy.{TemplateWhy}
 use Rattle.tpl_syntax.specs.declared.fault.TemplateWhy.TheVariants as unread
@@ -13,12 +14,13 @@ use Rattle.live_cmd.specs.declared.contents.Content.{Content}
 use Rattle.live_cmd.specs.declared.contents.Content.TheVariants as content
 use Rattle.live_cmd.specs.declared.contents.Head.{Head}
 use Rattle.live_cmd.specs.declared.contents.Head.TheVariants as heads
+use Rattle.live_cmd.specs.declared.command.Command.{Command}
 use Rattle.live_cmd.specs.declared.command.Command.TheVariants as command
 use Rattle.live_cmd.specs.declared.command.Item.{Item}
 use Rattle.live_cmd.specs.declared.command.Item.TheVariants as item
 use Rattle.live_entries.specs.declared.refusal.LimitWord.TheVariants as limit
 use Rattle.live_entries.specs.declared.refusal.Refusal.TheVariants as refusal
-use Rattle.live_cmd.specs.Grammar.{Row, row, Said, Writes, effect, template, close}
+use Rattle.live_cmd.specs.Grammar.{Row, row, Said, Writes, effect, on, template, close}
 
 -- what lines are that are no body, at a line of this number; memory never is a cause of what lines are
 abbrev pub body_refused : ℕ → BodyWhy → Content
@@ -54,10 +56,18 @@ abbrev pub is_want : TemplateWhy → Bool
 is_want (unread.NoMemory e) = true
 is_want _ = false
 
--- what the body of an effect is, which has this name and stands inside this owner
-abbrev pub effect_content : List ℕ → Option (List ℕ) → Answer → Content
-effect_content n o (Ok b) = content.Makes (command.Effect n b o)
-effect_content n o (Err f) = body_refused f.at f.why
+-- what a body is of which this command is made
+abbrev pub body_content : (Bodies → Command) → Answer → Content
+body_content makes (Ok b) = content.Makes (makes b)
+body_content makes (Err f) = body_refused f.at f.why
+
+-- an effect that has this name and stands inside this owner, of its body
+abbrev pub effect_of : List ℕ → Option (List ℕ) → Bodies → Command
+effect_of n o b = command.Effect n b o
+
+-- a handler of an event at a line of a template, of its body
+abbrev pub handler_of : List ℕ → ℕ → List ℕ → Bodies → Command
+handler_of t k e b = command.On t k e b
 
 -- what the lines of a template are, which has this name
 abbrev pub template_content : List ℕ → templates.Answer → Content
@@ -76,12 +86,14 @@ block_item false n (content.Makes c) = item.Refused (refusal.Syntax n)
 -- whether the lines behind such a line have a grammar of their own
 abbrev pub is_head : Row → Bool
 is_head effect = true
+is_head on = true
 is_head template = true
 is_head _ = false
 
 -- what the first line of a block says
 abbrev pub said_head : Head → Said
 said_head (heads.Effect n o) = (effect, (n, (o, tt)))
+said_head (heads.On t k e) = (on, (t, (k, (e, tt))))
 said_head (heads.Template n) = (template, (n, tt))
 
 -- bytes write nothing that begins such a block
@@ -90,7 +102,8 @@ IsNoHead bytes = (x : Said) → Writes x bytes → is_head x.0 ≡ true → ⊥
 
 -- these lines, behind a first line of this row, come to this
 abbrev pub IsContentOf : (r : Row) → Args (row r).1 → List NumberedLine → Content → Type 0
-IsContentOf effect a ls c = (x : Answer) × IsRead effects ls x × (c ≡ effect_content a.0 a.1.0 x)
+IsContentOf effect a ls c = (x : Answer) × IsRead effects ls x × (c ≡ body_content (effect_of a.0 a.1.0) x)
+IsContentOf on a ls c = (x : Answer) × IsRead handlers ls x × (c ≡ body_content (handler_of a.0 a.1.0 a.1.1.0) x)
 IsContentOf template a ls c = (x : templates.Answer) × templates.IsRead ls x × (c ≡ template_content a.0 x)
 IsContentOf _ a ls c = ⊥
 

@@ -5,7 +5,7 @@ use Rattle.std.specs.Str.{bytes_eq}
 use Rattle.sig_words.specs.Lexemes.{symbol, word}
 use Rattle.formula_text.specs.Slots.{wired}
 use Rattle.line_forms.specs.Blocks as blocks
-use Rattle.line_forms.specs.Forms.{Piece, part, fixed, one, perhaps, many, listed, arguments, formula, name, value, key, count, are_distinct}
+use Rattle.line_forms.specs.Forms.{Piece, part, fixed, one, perhaps, many, listed, arguments, formula, name, value, key, count, tagged, are_distinct}
 use Rattle.line_forms.specs.Rows as grammar
 use Rattle.line_forms.specs.Told.{Made}
 use Rattle.live_cmd.specs.declared.command.Bare.{Bare}
@@ -48,6 +48,9 @@ pub data Row : Type 0 where
   unwatch : Row
   mount : Row
   effect : Row
+  -- a handler of an event, and the firing of one
+  on : Row
+  fire : Row
   template : Row
   close : Row
 
@@ -78,6 +81,10 @@ K = part (one count)
 -- the key of a row
 abbrev KEY : Piece
 KEY = part (one key)
+
+-- an event behind @
+abbrev EVENT : Piece
+EVENT = part (one tagged)
 
 -- the names of fields in parentheses
 abbrev FIELDS : Piece
@@ -136,6 +143,8 @@ row watch = (codes "watch", N ∷ NAMES ∷ [])
 row unwatch = (codes "unwatch", N ∷ N ∷ [])
 row mount = (codes "mount", N ∷ N ∷ in_O ∷ [])
 row effect = (codes "effect", N ∷ in_O ∷ [])
+row on = (codes "on", N ∷ K ∷ EVENT ∷ [])
+row fire = (codes "fire", N ∷ K ∷ EVENT ∷ [])
 row template = (codes "template", N ∷ [])
 row close = (codes "end", [])
 
@@ -148,6 +157,8 @@ last_rows =
     ∷ (codes "unwatch", unwatch ∷ [])
     ∷ (codes "mount", mount ∷ [])
     ∷ (codes "effect", effect ∷ [])
+    ∷ (codes "on", on ∷ [])
+    ∷ (codes "fire", fire ∷ [])
     ∷ (codes "template", template ∷ [])
     ∷ (codes "end", close ∷ [])
     ∷ []
@@ -204,6 +215,8 @@ line_makes watch = λ w ns. line.Alone (command.Watch w ns)
 line_makes unwatch = λ w n. line.Alone (command.Unwatch w n)
 line_makes mount = λ n t o. line.Alone (command.Mount n t o)
 line_makes effect = λ n o. line.Effect n o
+line_makes on = λ t k e. line.On t k e
+line_makes fire = λ p k e. line.Alone (command.Fire p k e)
 line_makes template = λ n. line.Template n
 line_makes close = line.End
 

@@ -28,6 +28,7 @@ found_of x = record { alone = is_alone x; line = line_or_fault x }
 -- the first line of a block, where a line is one
 abbrev pub head_of : Line → Option Head
 head_of (line.Effect n o) = Some (heads.Effect n o)
+head_of (line.On t k e) = Some (heads.On t k e)
 head_of (line.Template n) = Some (heads.Template n)
 head_of _ = None
 

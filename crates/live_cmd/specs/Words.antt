@@ -15,10 +15,11 @@ verb_word verbs.Show = codes "show"
 verb_word verbs.Scratch = codes "scratch"
 verb_word verbs.Dispose = codes "dispose"
 verb_word verbs.Pending = codes "pending"
+verb_word verbs.Why = codes "why"
 
 -- all verbs
 abbrev pub all_verbs : List Verb
-all_verbs = verbs.Get ∷ verbs.State ∷ verbs.Sources ∷ verbs.Show ∷ verbs.Scratch ∷ verbs.Dispose ∷ verbs.Pending ∷ []
+all_verbs = verbs.Get ∷ verbs.State ∷ verbs.Sources ∷ verbs.Show ∷ verbs.Scratch ∷ verbs.Dispose ∷ verbs.Pending ∷ verbs.Why ∷ []
 
 -- the word of a command of one word
 abbrev pub bare_word : Bare → List ℕ
@@ -26,10 +27,11 @@ bare_word bares.Flush = codes "flush"
 bare_word bares.Begin = codes "begin"
 bare_word bares.Commit = codes "commit"
 bare_word bares.Abort = codes "abort"
+bare_word bares.Record = codes "record"
 
 -- all commands of one word
 abbrev pub all_bares : List Bare
-all_bares = bares.Flush ∷ bares.Begin ∷ bares.Commit ∷ bares.Abort ∷ []
+all_bares = bares.Flush ∷ bares.Begin ∷ bares.Commit ∷ bares.Abort ∷ bares.Record ∷ []
 
 -- what has this word, by the word of each
 abbrev pub found : {A : Type 0} → List (List ℕ × A) → List ℕ → Option A

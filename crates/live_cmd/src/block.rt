@@ -15,7 +15,7 @@ use crate::{Item, Line};
 use formula_text::FormulaFault;
 use live_entries::Refusal;
 use script_lines::NumberedLine;
-use sig_base::{MOST_LINE, Name, NoMemory};
+use sig_base::{MOST_LINE, Name, NoMemory, Text};
 use std::alloc::Global;
 
 // An owner, or none, as it is.
@@ -37,6 +37,15 @@ fn effect_head(name: &Name, inside: &Option<Name>) -> Result<Option<Head>, NoMem
     Ok(Some(Head::Effect(name, inside)))
 }
 
+// The first line of a handler.
+fn handler_head(template: &Name, place: u64, event: &Text) -> Result<Option<Head>, NoMemory>
+    ensures { IfOk result (λ h. h ≡ Some (heads.On template.now place event.now)) }
+{
+    let template = template.copy()?;
+    let event = event.copy()?;
+    Ok(Some(Head::On(template, place, event)))
+}
+
 // The first line of a template.
 fn template_head(name: &Name) -> Result<Option<Head>, NoMemory>
     ensures { IfOk result (λ h. h ≡ Some (heads.Template name.now)) }
@@ -51,6 +60,7 @@ fn head_told(line: &Result<Line, FormulaFault>) -> Result<Option<Head>, NoMemory
 {
     match line {
         Ok(Line::Effect(name, inside)) => effect_head(name, inside),
+        Ok(Line::On(template, place, event)) => handler_head(template, *place, event),
         Ok(Line::Template(name)) => template_head(name),
         _ => Ok(None),
     }

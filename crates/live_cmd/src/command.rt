@@ -11,8 +11,8 @@ use sig_untrack::Body;
 use std::marker::Model;
 use tpl_syntax::Template;
 
-/// The body of an effect with the names that stand in it: its statements, the names that they act on, the names in their formulas, the
-/// bodies of its nested effects, and its rewirings.
+/// The body of an effect or of a handler, with the names that stand in it: its statements, the names that they act on, the names in their
+/// formulas, the bodies of its nested effects, and its rewirings.
 #[derive(Drop)]
 pub struct EffectBody {
     body: Body,
@@ -69,6 +69,8 @@ pub enum Verb {
     Dispose,
     /// `pending W` tells the watched computeds that have to run, or something below them.
     Pending,
+    /// `why N` tells the chain of changes and runs that made a computed run last.
+    Why,
 }
 
 /// The commands of one word.
@@ -82,10 +84,12 @@ pub enum Bare {
     Commit,
     /// `abort` ends it, and gives its cells their earlier values back.
     Abort,
+    /// `record` begins a journal of changes and runs.
+    Record,
 }
 
 // The word of each verb, at the place of its number.
-const VERBS: [(Verb, &str); 7] = [
+const VERBS: [(Verb, &str); 8] = [
     (Verb::Get, "get"),
     (Verb::State, "state"),
     (Verb::Sources, "sources"),
@@ -93,14 +97,16 @@ const VERBS: [(Verb, &str); 7] = [
     (Verb::Scratch, "scratch"),
     (Verb::Dispose, "dispose"),
     (Verb::Pending, "pending"),
+    (Verb::Why, "why"),
 ];
 
 // So it is for the commands of one word.
-const BARES: [(Bare, &str); 4] = [
+const BARES: [(Bare, &str); 5] = [
     (Bare::Flush, "flush"),
     (Bare::Begin, "begin"),
     (Bare::Commit, "commit"),
     (Bare::Abort, "abort"),
+    (Bare::Record, "record"),
 ];
 
 // What stands in the first of these rows that has this word.
@@ -286,6 +292,19 @@ pub enum Command {
         name: Name,
         body: EffectBody,
         inside: Option<Name>,
+    },
+    /// `on T PLACE @EVENT` to `end` makes a handler of an event at the nodes of a line of a template. Lines are counted from 1.
+    On {
+        template: Name,
+        place: u64,
+        event: Text,
+        body: EffectBody,
+    },
+    /// `fire P ID @EVENT` runs the handlers that wait for an event at a node of a page, and at those around it.
+    Fire {
+        page: Name,
+        node: u64,
+        event: Text,
     },
     /// `template T` to `end` makes a template.
     Template {

@@ -10,7 +10,7 @@ use crate::command::EffectBody;
 use body_text::{Allowance, BodyWhy};
 use live_entries::{LimitWord, Refusal};
 use script_lines::NumberedLine;
-use sig_base::{MOST_LINE, Name, NoMemory};
+use sig_base::{MOST_LINE, Name, NoMemory, Text};
 use std::alloc::Global;
 use tpl_syntax::TemplateWhy;
 
@@ -19,6 +19,8 @@ use tpl_syntax::TemplateWhy;
 pub enum Head {
     /// `effect E [in O]`
     Effect(Name, Option<Name>),
+    /// `on T PLACE @EVENT`
+    On(Name, u64, Text),
     /// `template T`
     Template(Name),
 }
@@ -84,6 +86,31 @@ fn effect_content(
     }
 }
 
+// What the body of a handler is, of an event at a line of a template.
+fn handler_content(
+    alloc: Global,
+    template: Name,
+    place: u64,
+    event: Text,
+    lines: &[NumberedLine],
+) -> Result<Content, NoMemory>
+    requires { All (λ l. length l.text.now ≤ MOST_LINE) lines.now }
+    ensures { IfOk result (λ c. IsContent (said_head (heads.On template place event)) (map line_of lines.now) c) }
+{
+    match body_text::read_numbered(alloc, lines, Allowance::handler()) {
+        Ok(body) => Ok(Content::Makes(Command::On {
+            template,
+            place,
+            event,
+            body: EffectBody::of(body),
+        })),
+        Err(fault) => {
+            let content = body_refused(number_at(lines, fault.at), fault.why)?;
+            Ok(content)
+        }
+    }
+}
+
 // What lines are that are no template, at a line of this number, or want of memory.
 fn template_refused(number: u32, why: TemplateWhy) -> Result<Content, NoMemory>
     ensures content { IfOk result (λ c. c ≡ template_refused number why) }
@@ -124,6 +151,9 @@ pub fn content_of(alloc: Global, head: Head, lines: &[NumberedLine]) -> Result<C
 {
     match head {
         Head::Effect(name, inside) => effect_content(alloc, name, inside, lines),
+        Head::On(template, place, event) => {
+            handler_content(alloc, template, place, event, lines)
+        }
         Head::Template(name) => template_content(alloc, name, lines),
     }
 }

@@ -51,7 +51,9 @@ fn line_item(number: u32, line: Line) -> Item
 {
     match line {
         Line::Alone(command) => Item::Do(command),
-        Line::Effect(..) | Line::Template(_) | Line::End => Item::Refused(Refusal::Syntax(number)),
+        Line::Effect(..) | Line::On(..) | Line::Template(_) | Line::End => {
+            Item::Refused(Refusal::Syntax(number))
+        }
     }
 }
 
@@ -128,13 +130,13 @@ fn item_of(alloc: Global, piece: &Piece) -> Result<Item, NoMemory>
 /// The first item from a byte on, the place after it, and the number of the line there. The byte begins a line of this
 /// number; `None` exactly where nothing is left but empty lines and comments.
 ///
-/// An item is a line or, from an `effect` or a `template` line to the `end` that closes it, a block. It is refused for the first of these
-/// causes: a line of more than `MOST_LINE` bytes; an end that is missing, as `Syntax` with the number of its first line; a line
+/// An item is a line or, from an `effect`, an `on` or a `template` line to the `end` that closes it, a block. It is refused for the first of
+/// these causes: a line of more than `MOST_LINE` bytes; an end that is missing, as `Syntax` with the number of its first line; a line
 /// that isn't in the grammar or may not stand there, as `Syntax` with the number of the first such line; the first line with an
 /// `untrack` outside of an effect, an `it` where there is no row, a child that its element can't hold, a formula that is higher than
 /// `MOST_HEIGHT`, or what is nested more than its grammar allows; the first line with a text of more than `MOST_TEXT` bytes, a list of more
-/// than `MOST_FIELDS` fields, a formula of more than `MOST_SOURCES` names or a host formula of more arguments; the body of an effect of
-/// more than `MOST_BODY_LINES` lines, a template of more than `MOST_TEMPLATE_LINES`.
+/// than `MOST_FIELDS` fields, a formula of more than `MOST_SOURCES` names or a host formula of more arguments; the body of an effect or of a
+/// handler of more than `MOST_BODY_LINES` lines, a template of more than `MOST_TEMPLATE_LINES`.
 /// `NoMemory` where the item finds no room.
 pub fn next_item(
     alloc: Global,

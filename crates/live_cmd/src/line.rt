@@ -4,7 +4,7 @@ ghost use Rattle.live_cmd.specs.declared.line.Line.TheVariants as given;
 
 use crate::Command;
 use formula_text::FormulaFault;
-use sig_base::Name;
+use sig_base::{Name, Text};
 
 /// What a line says, by itself: where it may stand is another matter.
 #[derive(Drop)]
@@ -13,6 +13,8 @@ pub enum Line {
     Alone(Command),
     /// `effect E [in O]`, the first line of a block
     Effect(Name, Option<Name>),
+    /// `on T PLACE @EVENT`, the first line of a block
+    On(Name, u64, Text),
     /// `template T`, the first line of a block
     Template(Name),
     /// `end`, the last line of a block

@@ -22,9 +22,10 @@ use crate::watchers::{any_watcher, unwatch, watch};
 use crate::{Bare, Command, Line, Verb};
 use formula_text::Allow;
 use line_forms::{
-    NotThere, ToldValue, Unread, count_behind, ends_at, first_word, optional, symbol_at, value_at,
+    NotThere, ToldValue, Unread, count_at, count_behind, ends_at, first_word, optional, symbol_at,
+    tag_at, value_at,
 };
-use sig_base::{MOST_LINE, Name, NoMemory};
+use sig_base::{MOST_LINE, Name, NoMemory, Text};
 use sig_words::{LineFault, Token, tokens};
 use std::alloc::Global;
 
@@ -150,6 +151,37 @@ fn effect(alloc: Global, line: &[u8], tokens: &[Token]) -> Result<Found, Unread>
     Ok(around(Line::Effect(name, inside)))
 }
 
+// A name, a number and an event behind `@`, which stand behind `on` and behind `fire`.
+fn event_last(alloc: Global, line: &[u8], tokens: &[Token]) -> Result<(Name, u64, Text), Unread>
+    requires { AreTokens line.now tokens.now }
+    ensures { IfRead result (λ found. option_map (λ e. (e.0, (e.1, (e.2, tt)))) found ≡ read_form (rows.row rows.on).1 (ahead line.now tokens.now 1)) }
+{
+    let (name, at) = name_text_at(line, tokens, 1)?;
+    let (number, at) = count_at(line, tokens, at)?;
+    let (event, at) = tag_at(alloc, line, tokens, at)?;
+    ends_at(tokens, at)?;
+    let name = made(alloc, name)?;
+    Ok((name, number, event))
+}
+
+// `on T PLACE @EVENT`
+fn on(alloc: Global, line: &[u8], tokens: &[Token]) -> Result<Found, Unread>
+    requires { AreTokens line.now tokens.now }
+    ensures { IfRead result (λ found. found ≡ found_as rows.on (ahead line.now tokens.now 1)) }
+{
+    let (template, place, event) = event_last(alloc, line, tokens)?;
+    Ok(around(Line::On(template, place, event)))
+}
+
+// `fire P ID @EVENT`
+fn fire(alloc: Global, line: &[u8], tokens: &[Token]) -> Result<Found, Unread>
+    requires { AreTokens line.now tokens.now }
+    ensures { IfRead result (λ found. found ≡ found_as rows.fire (ahead line.now tokens.now 1)) }
+{
+    let (page, node, event) = event_last(alloc, line, tokens)?;
+    Ok(alone(Command::Fire { page, node, event }))
+}
+
 // `template T`
 fn template(alloc: Global, line: &[u8], tokens: &[Token]) -> Result<Found, Unread>
     ensures { IfRead result (λ found. found ≡ found_as rows.template (ahead line.now tokens.now 1)) }
@@ -184,6 +216,8 @@ fn behind_last_word(
         "unwatch" => unwatch(alloc, line, tokens),
         "mount" => mount(alloc, line, tokens),
         "effect" => effect(alloc, line, tokens),
+        "on" => on(alloc, line, tokens),
+        "fire" => fire(alloc, line, tokens),
         "template" => template(alloc, line, tokens),
         "end" => Ok(close(line, tokens)?),
         _ => Err(Unread::NotThere),

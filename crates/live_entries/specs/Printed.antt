@@ -17,6 +17,8 @@ use Rattle.live_entries.specs.declared.refusal.Refusal.TheVariants as refusal
 use Rattle.live_entries.specs.declared.label.Label.{Label}
 use Rattle.live_entries.specs.declared.entry.Seen.{Seen}
 use Rattle.live_entries.specs.declared.entry.Seen.TheVariants as seen
+use Rattle.live_entries.specs.declared.entry.Reason.{Reason}
+use Rattle.live_entries.specs.declared.entry.Reason.TheVariants as reason
 use Rattle.live_entries.specs.declared.entry.Entry.{Entry}
 use Rattle.live_entries.specs.declared.entry.Entry.TheVariants as entry
 
@@ -35,6 +37,8 @@ limit_word limit.Owners = codes "owners"
 limit_word limit.Watchers = codes "watchers"
 limit_word limit.Templates = codes "templates"
 limit_word limit.Pages = codes "pages"
+limit_word limit.Handlers = codes "handlers"
+limit_word limit.Facts = codes "facts"
 
 -- a name behind a blank
 abbrev pub listed : List ℕ → List ℕ
@@ -70,6 +74,10 @@ refusal_text refusal.Turns = codes "20"
 refusal_text (refusal.RulePlace k) = codes "21 " ++ decimal k
 refusal_text refusal.BatchOpen = codes "22"
 refusal_text refusal.NoBatch = codes "23"
+refusal_text (refusal.NoNode k) = codes "24 " ++ decimal k
+refusal_text (refusal.NoLine k) = codes "25 " ++ decimal k
+refusal_text refusal.Late = codes "26"
+refusal_text (refusal.NoRun n) = codes "27 " ++ n
 
 -- the line of a refusal
 abbrev pub line_of_refusal : Refusal → List ℕ
@@ -155,6 +163,26 @@ line_of_cleanup l = codes "cleanup " ++ label_text l ++ codes "\n"
 abbrev pub line_of_gone : Label → List ℕ
 line_of_gone l = codes "gone " ++ label_text l ++ codes "\n"
 
+-- a node of a page at which a handler runs
+abbrev pub line_of_fired : List ℕ → ℕ → List ℕ
+line_of_fired p node = codes "fired " ++ p ++ codes " " ++ decimal node ++ codes "\n"
+
+-- the fault of its body
+abbrev pub line_of_fail_at : List ℕ → ℕ → Fault → List ℕ
+line_of_fail_at p node f = codes "fail " ++ p ++ codes "." ++ decimal node ++ codes " " ++ fault_name f ++ codes "\n"
+
+-- why a computed ran, behind a blank
+abbrev pub reason_text : Reason → List ℕ
+reason_text reason.First = codes " first"
+reason_text reason.Cycle = codes " cycle"
+reason_text (reason.Rewired f) = codes " rewired " ++ decimal f
+reason_text (reason.Changed n f) = codes " changed " ++ n ++ codes " " ++ decimal f
+reason_text reason.Evaluating = codes " evaluating"
+
+-- a run, by the number of its fact, and why it was
+abbrev pub line_of_why : List ℕ → ℕ → Reason → List ℕ
+line_of_why n run r = codes "why " ++ n ++ codes " " ++ decimal run ++ reason_text r ++ codes "\n"
+
 -- the lines of an entry
 abbrev pub line_of_entry : Entry → List ℕ
 line_of_entry (entry.Outcome n o) = line_of_outcome n o
@@ -168,11 +196,14 @@ line_of_entry (entry.Drop place asks) = line_of_drop place asks
 line_of_entry (entry.Op n o) = line_of_op n o
 line_of_entry (entry.Page n bytes) = lines_of_bytes (codes "page ") n bytes
 line_of_entry (entry.Scratch n bytes) = lines_of_bytes (codes "scratch ") n bytes
+line_of_entry (entry.Why n run r) = line_of_why n run r
 line_of_entry (entry.Error r) = line_of_refusal r
 line_of_entry (entry.Run n reads o) = line_of_run n reads o
 line_of_entry (entry.Effect l reads) = line_of_effect l reads
 line_of_entry (entry.Cleanup l) = line_of_cleanup l
 line_of_entry (entry.Gone l) = line_of_gone l
+line_of_entry (entry.Fired p node) = line_of_fired p node
+line_of_entry (entry.FailAt p node f) = line_of_fail_at p node f
 
 -- whether the entry is printed only where a trace is asked for
 abbrev pub is_traced : Entry → Bool
@@ -180,6 +211,7 @@ is_traced (entry.Run n reads o) = true
 is_traced (entry.Effect l reads) = true
 is_traced (entry.Cleanup l) = true
 is_traced (entry.Gone l) = true
+is_traced (entry.Fired p node) = true
 is_traced _ = false
 
 -- what is printed of an entry, with a trace or without

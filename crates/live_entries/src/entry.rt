@@ -14,6 +14,32 @@ pub enum Seen {
     Dirty,
 }
 
+/// Why a computed ran. The numbers are those of facts of the journal, from 1.
+pub enum Reason {
+    /// It had never run.
+    First,
+    /// It held `cycle`.
+    Cycle,
+    /// It was rewired by that fact.
+    Rewired(u64),
+    /// What has this name, which its last run had read, was moved by that fact.
+    Changed(Name, u64),
+    /// None of these: a source of its last run was being evaluated.
+    Evaluating,
+}
+
+impl Drop for Reason {
+    fn drop(self) {
+        match self {
+            Reason::First => {}
+            Reason::Cycle => {}
+            Reason::Rewired(_) => {}
+            Reason::Changed(_, _) => {}
+            Reason::Evaluating => {}
+        }
+    }
+}
+
 /// Something that a command tells.
 pub enum Entry {
     /// What a name comes to.
@@ -38,6 +64,8 @@ pub enum Entry {
     Page(Name, PageBytes),
     /// The HTML of a page's template, evaluated from scratch.
     Scratch(Name, PageBytes),
+    /// A computed ran, which is the fact of this number, and why.
+    Why(Name, u64, Reason),
     /// A refused item.
     Error(Refusal),
     /// A computed has run: its sources in order of first reading, and what it came to.
@@ -48,6 +76,10 @@ pub enum Entry {
     Cleanup(Label),
     /// What has this label is gone.
     Gone(Label),
+    /// A handler of an event runs at the node of a page.
+    Fired(Name, u64),
+    /// Its body failed there, and none of its acts is done.
+    FailAt(Name, u64, Fault),
 }
 
 impl Drop for Entry {
@@ -64,11 +96,14 @@ impl Drop for Entry {
             Entry::Op(_, _) => {}
             Entry::Page(_, _) => {}
             Entry::Scratch(_, _) => {}
+            Entry::Why(_, _, _) => {}
             Entry::Error(_) => {}
             Entry::Run(_, _, _) => {}
             Entry::Effect(_, _) => {}
             Entry::Cleanup(_) => {}
             Entry::Gone(_) => {}
+            Entry::Fired(_, _) => {}
+            Entry::FailAt(_, _, _) => {}
         }
     }
 }

@@ -7,7 +7,7 @@ mod page;
 mod refusal;
 mod writer;
 
-pub use entry::{Entry, Seen};
+pub use entry::{Entry, Reason, Seen};
 pub use label::{ChildPath, Label};
 pub use line_forms::NameList;
 pub use page::{PageBytes, PageOp};

@@ -51,6 +51,14 @@ pub enum Refusal {
     BatchOpen,
     /// No batch is open that could end.
     NoBatch,
+    /// The page has no node of this number, or it is the root.
+    NoNode(u64),
+    /// The line of this ordinal of the template begins no element.
+    NoLine(u64),
+    /// A cell, a list or a computed was made already, or a journal was begun.
+    Late,
+    /// No journal was begun, or the computed of this name has never run.
+    NoRun(Name),
 }
 
 impl Drop for Refusal {
@@ -79,6 +87,10 @@ impl Drop for Refusal {
             Refusal::RulePlace(_) => {}
             Refusal::BatchOpen => {}
             Refusal::NoBatch => {}
+            Refusal::NoNode(_) => {}
+            Refusal::NoLine(_) => {}
+            Refusal::Late => {}
+            Refusal::NoRun(_) => {}
         }
     }
 }
@@ -111,7 +123,7 @@ pub enum LimitWord {
     Fields,
     /// A formula has at most `MOST_SOURCES` distinct names, and a host formula as many arguments.
     Sources,
-    /// The body of an effect has at most `MOST_BODY_LINES` lines between its first line and its `end`.
+    /// The body of an effect or of a handler has at most `MOST_BODY_LINES` lines between its first line and its `end`.
     Body,
     /// A template has at most `MOST_TEMPLATE_LINES` lines between its first line and its `end`.
     Template,
@@ -129,4 +141,8 @@ pub enum LimitWord {
     Templates,
     /// At most `MOST_PAGES` pages live.
     Pages,
+    /// At most `MOST_HANDLERS` handlers of events are made.
+    Handlers,
+    /// A journal has at most `MOST_FACTS` facts.
+    Facts,
 }

@@ -4,11 +4,13 @@ ghost use Rattle.std.specs.Fmt.{decimal};
 ghost use Rattle.sig_base.specs.Printer.{quoted};
 ghost use Rattle.page_model.specs.Texts.{IsSized};
 ghost use Rattle.live_entries.specs.Printed.{dotted, field_text, is_traced, label_text, limit_word, line_of_drop, line_of_effect};
-ghost use Rattle.live_entries.specs.Printed.{line_of_fail, line_of_log, line_of_notify, line_of_op, line_of_outcome};
+ghost use Rattle.live_entries.specs.Printed.{line_of_fail, line_of_fail_at, line_of_fired, line_of_log, line_of_notify, line_of_op, line_of_outcome};
 ghost use Rattle.live_entries.specs.Printed.{line_of_refusal, line_of_run, line_of_state, lines_of_bytes, listed, outcome_text};
-ghost use Rattle.live_entries.specs.Printed.{printed, reads_text, refusal_text, seen_word, IsSizedEntry};
+ghost use Rattle.live_entries.specs.Printed.{line_of_why, printed, reads_text, reason_text, refusal_text, seen_word, IsSizedEntry};
 
-use crate::{Entry, FieldDetail, Label, LimitWord, NameList, PageBytes, PageOp, Refusal, Seen};
+use crate::{
+    Entry, FieldDetail, Label, LimitWord, NameList, PageBytes, PageOp, Reason, Refusal, Seen,
+};
 use page_ops::op_line;
 use sig_base::{Fault, Name, NoMemory, Outcome, Text, Value, put_fault, put_quoted, put_value};
 
@@ -18,7 +20,7 @@ fn is_traced(entry: &Entry) -> bool
 {
     matches!(
         entry,
-        Entry::Run(..) | Entry::Effect(..) | Entry::Cleanup(_) | Entry::Gone(_)
+        Entry::Run(..) | Entry::Effect(..) | Entry::Cleanup(_) | Entry::Gone(_) | Entry::Fired(..)
     )
 }
 
@@ -47,6 +49,8 @@ fn limit_word(limit: LimitWord) -> &'static str
         LimitWord::Watchers => "watchers",
         LimitWord::Templates => "templates",
         LimitWord::Pages => "pages",
+        LimitWord::Handlers => "handlers",
+        LimitWord::Facts => "facts",
     }
 }
 
@@ -140,6 +144,10 @@ fn put_rule(out: &mut Vec<u8>, refusal: &Refusal) -> Result<(), NoMemory>
         Refusal::RulePlace(place) => put_with_number(out, b"21 ", *place),
         Refusal::BatchOpen => put(out, b"22"),
         Refusal::NoBatch => put(out, b"23"),
+        Refusal::NoNode(node) => put_with_number(out, b"24 ", *node),
+        Refusal::NoLine(line) => put_with_number(out, b"25 ", *line),
+        Refusal::Late => put(out, b"26"),
+        Refusal::NoRun(name) => put_with_word(out, b"27 ", name.as_str()),
     }
 }
 
@@ -296,6 +304,24 @@ fn put_effect(out: &mut Vec<u8>, label: &Label, reads: &NameList) -> Result<(), 
     put(out, b"\n")
 }
 
+fn put_fired(out: &mut Vec<u8>, page: &Name, node: u64) -> Result<(), NoMemory>
+    ensures { OnOk result (out.new.items ≡ out.old.items ++ line_of_fired page.now node) }
+{
+    put_with_word(out, b"fired ", page.as_str())?;
+    put_with_number(out, b" ", node)?;
+    put(out, b"\n")
+}
+
+fn put_fail_at(out: &mut Vec<u8>, page: &Name, node: u64, fault: Fault) -> Result<(), NoMemory>
+    ensures { OnOk result (out.new.items ≡ out.old.items ++ line_of_fail_at page.now node fault) }
+{
+    put_with_word(out, b"fail ", page.as_str())?;
+    put_with_number(out, b".", node)?;
+    put(out, b" ")?;
+    put_fault(out, fault)?;
+    put(out, b"\n")
+}
+
 fn put_op(out: &mut Vec<u8>, name: &Name, op: &PageOp) -> Result<(), NoMemory>
     ensures text { OnOk result (out.new.items ≡ out.old.items ++ line_of_op name.now op.now) }
     ensures sized { OnOk result (IsSized op.now) }
@@ -305,6 +331,31 @@ fn put_op(out: &mut Vec<u8>, name: &Name, op: &PageOp) -> Result<(), NoMemory>
     op_line(out, op.as_op())?;
     put(out, b"\n")?;
     Ok(())
+}
+
+// The reason of a run, behind a blank.
+fn put_reason(out: &mut Vec<u8>, reason: &Reason) -> Result<(), NoMemory>
+    ensures { OnOk result (out.new.items ≡ out.old.items ++ reason_text reason.now) }
+{
+    match reason {
+        Reason::First => put(out, b" first"),
+        Reason::Cycle => put(out, b" cycle"),
+        Reason::Rewired(fact) => put_with_number(out, b" rewired ", *fact),
+        Reason::Changed(name, fact) => {
+            put_with_word(out, b" changed ", name.as_str())?;
+            put_with_number(out, b" ", *fact)
+        }
+        Reason::Evaluating => put(out, b" evaluating"),
+    }
+}
+
+fn put_why(out: &mut Vec<u8>, name: &Name, run: u64, reason: &Reason) -> Result<(), NoMemory>
+    ensures { OnOk result (out.new.items ≡ out.old.items ++ line_of_why name.now run reason.now) }
+{
+    put_with_word(out, b"why ", name.as_str())?;
+    put_with_number(out, b" ", run)?;
+    put_reason(out, reason)?;
+    put(out, b"\n")
 }
 
 // A word, the name of a page, how many bytes it has, and the bytes.
@@ -326,7 +377,8 @@ fn put_bytes(out: &mut Vec<u8>, word: &[u8], name: &Name, page: &PageBytes) -> R
 /// name and those of the computeds. A notified watcher is `notify` and its name; a logged value is `log` and the printed value; a body that
 /// failed is `fail`, the effect's label and the name of the fault; a dropped host formula is `drop`, its place and how often it was asked. Of
 /// a trace are a run, `run`, the name, what it read in parentheses and its outcome; an evaluated body, `effect`, the label and what it read,
-/// tracked, in parentheses; a cleanup, `cleanup` and the effect's label; and an end, `gone` and the label. A label is a name, and for a child
+/// tracked, in parentheses; a cleanup, `cleanup` and the effect's label; an end, `gone` and the label; and a handler of an event that runs, `fired`, the page's name and the node's number. Where the body of one failed it is
+/// `fail`, the page's name, a dot, the node's number and the name of the fault. A label is a name, and for a child
 /// effect, behind it, the numbers of the children on the way down, each behind a dot. `sized` says what each operation of these types is:
 /// its numbers are numbers, and its texts are texts.
 pub fn entry_line(out: &mut Vec<u8>, entry: &Entry, trace: bool) -> Result<(), NoMemory>
@@ -348,10 +400,13 @@ pub fn entry_line(out: &mut Vec<u8>, entry: &Entry, trace: bool) -> Result<(), N
         Entry::Op(name, op) => put_op(out, name, op),
         Entry::Page(name, page) => put_bytes(out, b"page ", name, page),
         Entry::Scratch(name, page) => put_bytes(out, b"scratch ", name, page),
+        Entry::Why(name, run, reason) => put_why(out, name, *run, reason),
         Entry::Error(refusal) => put_refusal(out, refusal),
         Entry::Run(name, reads, outcome) => put_run(out, name, reads, outcome),
         Entry::Effect(label, reads) => put_effect(out, label, reads),
         Entry::Cleanup(label) => put_labelled(out, b"cleanup ", label),
         Entry::Gone(label) => put_labelled(out, b"gone ", label),
+        Entry::Fired(page, node) => put_fired(out, page, *node),
+        Entry::FailAt(page, node, fault) => put_fail_at(out, page, *node, *fault),
     }
 }

@@ -14,7 +14,7 @@ use Rattle.live_cmd.specs.declared.command.Command.{Command}
 use Rattle.live_cmd.specs.declared.command.Command.TheVariants as command
 use Rattle.live_cmd.specs.declared.command.Item.TheVariants as item
 use Rattle.live_cmd.specs.Blocks.{is_head}
-use Rattle.live_cmd.specs.Grammar.{Row, row, commands, effect, template, close}
+use Rattle.live_cmd.specs.Grammar.{Row, row, commands, effect, on, template, close}
 use Rattle.live_cmd.specs.Items.{IsItem, any_long, Begins}
 use Rattle.live_cmd.proofs.Shared.{begins_none}
 use Rattle.live_writing.specs.Printer.{said_by, bytes_of, ended_line, command_text, lines_by, lines_of_command}
@@ -75,6 +75,7 @@ block b e ls n rest s first stays ends =
 -- the text of a command is that of its lines
 flat_text : (c : Command) → is_flat c ≡ true → command_text c ≡ flat_map ended_line (said_by c)
 flat_text (command.Effect n b o) h = absurd cc
+flat_text (command.On t k e b) h = absurd cc
 flat_text (command.Template n t) h = absurd cc
 flat_text _ h = refl
 
@@ -90,6 +91,7 @@ Stands ls = (n : ℕ) (rest : List ℕ) → pieces_of n (flat_map ended ls ++ re
 head_begins : (r : Row) (a : Args (row r).1) → is_head r ≡ true → begins_block (bytes_of (r, a)) ≡ true
 unfolding begins_block
 head_begins effect a h = refl
+head_begins on a h = refl
 head_begins template a h = refl
 head_begins _ a h = absurd cc
 

@@ -17,7 +17,7 @@ use Rattle.script_lines.specs.Pieces.{Piece}
 use Rattle.sig_untrack.specs.Stated.{Bodies}
 use Rattle.body_text.specs.declared.fault.BodyWhy.{BodyWhy}
 use Rattle.body_text.specs.declared.fault.BodyWhy.TheVariants as why
-use Rattle.body_text.specs.Allowances.{effects}
+use Rattle.body_text.specs.Allowances.{effects, handlers}
 use Rattle.body_text.specs.Verdicts.{Answer, IsRead}
 use Rattle.body_text.specs.Statements.{lines_of}
 use Rattle.body_text.specs.Grammar as body_grammar
@@ -39,9 +39,9 @@ use Rattle.live_cmd.specs.declared.command.Item.{Item}
 use Rattle.live_cmd.specs.declared.command.Item.TheVariants as item
 use Rattle.live_cmd.specs.declared.line.Line.{Line}
 use Rattle.live_cmd.specs.declared.line.Line.TheVariants as line
-use Rattle.live_cmd.specs.Grammar.{Row, row, commands, Said, Writes, said_line, computed, rewire, effect, template, close}
+use Rattle.live_cmd.specs.Grammar.{Row, row, commands, Said, Writes, said_line, computed, rewire, effect, on, template, close}
 use Rattle.live_cmd.specs.Refusals.{fault_of, refused_for}
-use Rattle.live_cmd.specs.Blocks.{Block, Ends, IsContent, IsContentOf, block_item, body_refused, effect_content, is_head, template_content, template_refused}
+use Rattle.live_cmd.specs.Blocks.{Block, Ends, IsContent, IsContentOf, block_item, body_content, body_refused, effect_of, handler_of, is_head, template_content, template_refused}
 use Rattle.live_cmd.specs.Items.{IsItem, long, unended, block, faulty, says, any_long, command_of, first_line, has_many_fields, is_alone, item_of, item_or}
 use Rattle.live_writing.specs.Printer.{said_by, bytes_of, ended_line, command_text, lines_by, body_lines, template_lines, lines_of_command}
 use Rattle.live_writing.proofs.Levels.{Stays, body_stays, template_stays}
@@ -53,6 +53,7 @@ use Rattle.live_writing.proofs.Numbered.{numbered-append, numbered_one}
 abbrev Again : Line → Said → Type 0
 Again (line.Alone c) x = said_by c ≡ x ∷ []
 Again (line.Effect n o) x = (effect, (n, (o, tt))) ≡ x
+Again (line.On t k e) x = (on, (t, (k, (e, tt)))) ≡ x
 Again (line.Template n) x = (template, (n, tt)) ≡ x
 Again line.End x = (close, tt) ≡ x
 
@@ -64,6 +65,7 @@ again _ a = refl
 first_again : (l : Line) (x : Said) (c : Command) → Again l x → command_of l ≡ Some c → said_by c ≡ x ∷ []
 first_again (line.Alone d) x c g e = let same : d ≡ c = cc in rw (sym same) g
 first_again (line.Effect n o) x c g e = absurd cc
+first_again (line.On t k v) x c g e = absurd cc
 first_again (line.Template n) x c g e = absurd cc
 first_again line.End x c g e = absurd cc
 
@@ -76,6 +78,7 @@ said_again x c e = first_again (said_line x) x c (again x.0 x.1) e
 -- whether the lines of a command say all of it
 abbrev pub is_flat : Command → Bool
 is_flat (command.Effect n b o) = false
+is_flat (command.On t k e b) = false
 is_flat (command.Template n t) = false
 is_flat _ = true
 
@@ -91,12 +94,14 @@ row_flat _ a = refl
 first_flat : (l : Line) (c : Command) → gives_flat l ≡ true → command_of l ≡ Some c → is_flat c ≡ true
 first_flat (line.Alone d) c f e = let same : d ≡ c = cc in ap is_flat (sym same) ∙ f
 first_flat (line.Effect n o) c f e = absurd cc
+first_flat (line.On t k v) c f e = absurd cc
 first_flat (line.Template n) c f e = absurd cc
 first_flat line.End c f e = absurd cc
 
 -- its lines are those that say it
 pub flat_lines : (c : Command) → is_flat c ≡ true → lines_by c ≡ map bytes_of (said_by c)
 flat_lines (command.Effect n b o) h = absurd cc
+flat_lines (command.On t k e b) h = absurd cc
 flat_lines (command.Template n t) h = absurd cc
 flat_lines _ h = refl
 
@@ -167,16 +172,17 @@ no_body k why.Lines c e = absurd cc
 no_body k (why.NoMemory x) c e = absurd cc
 
 -- the body that was read
-body_made : (n : List ℕ) (o : Option (List ℕ)) (x : Answer) (c : Command) → effect_content n o x ≡ content.Makes c
-    → (b : Bodies) × (x ≡ Ok b) × (command.Effect n b o ≡ c)
-body_made n o (Ok b) c e = (b, refl, cc)
-body_made n o (Err f) c e = absurd (no_body f.at f.why c e)
+body_made : (makes : Bodies → Command) (x : Answer) (c : Command) → body_content makes x ≡ content.Makes c → (b : Bodies) × (x ≡ Ok b) × (makes b ≡ c)
+body_made makes (Ok b) c e = (b, refl, cc)
+body_made makes (Err f) c e = absurd (no_body f.at f.why c e)
 
-effect_text : (n : List ℕ) (b : Bodies) (o : Option (List ℕ)) → command_text (command.Effect n b o) ≡ flat_map ended (lines_by (command.Effect n b o))
-effect_text n b o =
+-- the text of a block around a body, behind this first line
+around_body : (first : Said) (b : Bodies) → ended_line first ++ (body.body_text b ++ ended_line (close, tt))
+    ≡ flat_map ended (bytes_of first ∷ (body_lines b ++ bytes_of (close, tt) ∷ []))
+around_body first b =
     let end = bytes_of (close, tt) in
     let inner : body.body_text b ≡ flat_map ended (body_lines b) = sym (flat_map-map ended (λ l. body.bytes_of (body_grammar.said_of l)) (lines_of (body.meaning b))) in
-    ap (λ (bs : List ℕ). ended_line (effect, (n, (o, tt))) ++ bs)
+    ap (λ (bs : List ℕ). ended_line first ++ bs)
     (ap (λ (bs : List ℕ). bs ++ ended_line (close, tt)) inner ∙ ap (λ (bs : List ℕ). flat_map ended (body_lines b) ++ bs) (sym (append-nil (ended end)))
     ∙ sym (flat_map-append ended (body_lines b) (end ∷ [])))
 
@@ -222,13 +228,33 @@ module _ (c : Command) (first last : List ℕ) (ls : List NumberedLine) where
         head = (effect, a);
         inner = body_lines b;
         lines = refl;
-        text = effect_text a.0 b a.1.0;
+        text = around_body (effect, a) b;
         writes = w;
         begins = refl;
         end = v;
         whole = whole_lines effects ls b r;
         stays = body_stays (body.meaning b) 1 (omega arith);
         again = λ n. (Ok b, read_anew effects n ls b r, refl);
+      } in
+      subst (λ (f : Command). DoneIn f) e d
+
+  -- a handler that its lines make
+  handler_done : (a : Args (row on).1) (b : Bodies) → Writes (on, a) first → IsRead handlers ls (Ok b) → command.On a.0 a.1.0 a.1.1.0 b ≡ c
+      → Writes (close, tt) last → DoneIn c
+  handler_done a b w r e v =
+      let d : DoneIn (command.On a.0 a.1.0 a.1.1.0 b) = record {
+        first = first;
+        last = last;
+        head = (on, a);
+        inner = body_lines b;
+        lines = refl;
+        text = around_body (on, a) b;
+        writes = w;
+        begins = refl;
+        end = v;
+        whole = whole_lines handlers ls b r;
+        stays = body_stays (body.meaning b) 1 (omega arith);
+        again = λ n. (Ok b, read_anew handlers n ls b r, refl);
       } in
       subst (λ (f : Command). DoneIn f) e d
 
@@ -256,8 +282,11 @@ module _ (c : Command) (first last : List ℕ) (ls : List NumberedLine) where
   content_done : (r : Row) (a : Args (row r).1) (x : Content) → Writes (r, a) first → IsContentOf r a ls x → x ≡ content.Makes c
       → Writes (close, tt) last → DoneIn c
   content_done effect a x w h e v =
-      let made = body_made a.0 a.1.0 h.0 c (sym h.2 ∙ e) in
+      let made = body_made (effect_of a.0 a.1.0) h.0 c (sym h.2 ∙ e) in
       effect_done a made.0 w (subst (λ (y : Answer). IsRead effects ls y) made.1 h.1) made.2 v
+  content_done on a x w h e v =
+      let made = body_made (handler_of a.0 a.1.0 a.1.1.0) h.0 c (sym h.2 ∙ e) in
+      handler_done a made.0 w (subst (λ (y : Answer). IsRead handlers ls y) made.1 h.1) made.2 v
   content_done template a x w h e v =
       let made = template_made a.0 h.0 c (sym h.2 ∙ e) in
       template_done a made.0 w (subst (λ (y : templates.Answer). templates.IsRead ls y) made.1 h.1) made.2 v

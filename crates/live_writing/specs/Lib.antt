@@ -1,1 +1,3 @@
+pub mod EntryExamples
+pub mod Examples
 pub mod Printer

@@ -21,7 +21,7 @@ use Rattle.live_cmd.specs.declared.command.Try.TheVariants as tried
 use Rattle.live_cmd.specs.declared.command.SourceText.{SourceText}
 use Rattle.live_cmd.specs.Grammar.{commands, Said, verb, bare, cell, set, list, insert_row, remove_row, move_row, put_field, computed, computed_host}
 use Rattle.live_cmd.specs.Grammar.{rewire, rewire_host, owner, watcher, tries_get, tries_set, tries_watch, tries_unwatch, watch, unwatch, mount}
-use Rattle.live_cmd.specs.Grammar.{effect, template, close}
+use Rattle.live_cmd.specs.Grammar.{effect, on, fire, template, close}
 
 -- the formula with names in place of its slots
 abbrev pub draft_of : Wiring → Draft
@@ -68,6 +68,8 @@ said_by (command.Unwatch w n) = (unwatch, (w, (n, tt))) ∷ []
 said_by (command.Mount n t o) = (mount, (n, (t, (o, tt)))) ∷ []
 said_by (command.Bare b) = (bare b, tt) ∷ []
 said_by (command.Effect n b o) = (effect, (n, (o, tt))) ∷ (close, tt) ∷ []
+said_by (command.On t k e b) = (on, (t, (k, (e, tt)))) ∷ (close, tt) ∷ []
+said_by (command.Fire p k e) = (fire, (p, (k, (e, tt)))) ∷ []
 said_by (command.Template n t) = (template, (n, tt)) ∷ (close, tt) ∷ []
 
 -- the bytes of a line
@@ -89,12 +91,14 @@ template_lines t = map template_text.bytes_of (template_text.said_by t)
 -- the text of a command
 abbrev pub command_text : Command → List ℕ
 command_text (command.Effect n b o) = ended_line (effect, (n, (o, tt))) ++ (body.body_text b ++ ended_line (close, tt))
+command_text (command.On t k e b) = ended_line (on, (t, (k, (e, tt)))) ++ (body.body_text b ++ ended_line (close, tt))
 command_text (command.Template n t) = ended_line (template, (n, tt)) ++ (template_text.plan_text t ++ ended_line (close, tt))
 command_text c = flat_map ended_line (said_by c)
 
 -- the bytes of its lines
 abbrev pub lines_by : Command → List (List ℕ)
 lines_by (command.Effect n b o) = bytes_of (effect, (n, (o, tt))) ∷ (body_lines b ++ bytes_of (close, tt) ∷ [])
+lines_by (command.On t k e b) = bytes_of (on, (t, (k, (e, tt)))) ∷ (body_lines b ++ bytes_of (close, tt) ∷ [])
 lines_by (command.Template n t) = bytes_of (template, (n, tt)) ∷ (template_lines t ++ bytes_of (close, tt) ∷ [])
 lines_by c = map bytes_of (said_by c)
 

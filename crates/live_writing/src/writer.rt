@@ -11,9 +11,9 @@ use crate::rows::{put_edit, put_list};
 use crate::sources::{put_computed, put_rewire};
 use crate::watchers::{put_unwatch, put_watch, put_watcher};
 use body_text::put_body;
-use line_forms::{put_count_behind, put_fixed, put_name, put_value};
+use line_forms::{put_count, put_count_behind, put_fixed, put_name, put_tag, put_value};
 use live_cmd::{Bare, Command, EffectBody, Verb};
-use sig_base::{Name, NoMemory, Scalar};
+use sig_base::{Name, NoMemory, Scalar, Text};
 use tpl_syntax::Template;
 
 fn put_named(out: &mut Vec<u8>, verb: Verb, name: &Name) -> Result<(), NoMemory>
@@ -153,6 +153,48 @@ fn put_effect(
     Ok(())
 }
 
+fn put_handler_title(
+    out: &mut Vec<u8>,
+    template: &Name,
+    place: u64,
+    event: &Text,
+) -> Result<(), NoMemory>
+    ensures { OnOk result (out.new.items ≡ out.old.items ++ ended_line (rows.on, (template.now, (place, (event.now, tt))))) }
+{
+    out.extend_from_slice(b"on")?;
+    put_name(out, template)?;
+    put_count(out, place)?;
+    put_tag(out, event)?;
+    out.push(b'\n')?;
+    Ok(())
+}
+
+fn put_handler(
+    out: &mut Vec<u8>,
+    template: &Name,
+    place: u64,
+    event: &Text,
+    body: &EffectBody,
+) -> Result<(), NoMemory>
+    ensures { OnOk result (out.new.items ≡ out.old.items ++ command_text (command.On template.now place event.now body.now)) }
+{
+    put_handler_title(out, template, place, event)?;
+    put_lines(out, body)?;
+    put_end(out)?;
+    Ok(())
+}
+
+fn put_fire(out: &mut Vec<u8>, page: &Name, node: u64, event: &Text) -> Result<(), NoMemory>
+    ensures { OnOk result (out.new.items ≡ out.old.items ++ ended_line (rows.fire, (page.now, (node, (event.now, tt))))) }
+{
+    out.extend_from_slice(b"fire")?;
+    put_name(out, page)?;
+    put_count(out, node)?;
+    put_tag(out, event)?;
+    out.push(b'\n')?;
+    Ok(())
+}
+
 /// Appends the lines of a command, each ended by LF: one blank before each token behind the first, and formulas in their
 /// canonical text. They are read as the same command, where none has more than `MOST_LINE` bytes.
 pub fn command_line(out: &mut Vec<u8>, command: &Command) -> Result<(), NoMemory>
@@ -189,6 +231,13 @@ pub fn command_line(out: &mut Vec<u8>, command: &Command) -> Result<(), NoMemory
             template,
             inside,
         } => put_mount(out, name, template, inside),
+        Command::On {
+            template,
+            place,
+            event,
+            body,
+        } => put_handler(out, template, *place, event, body),
+        Command::Fire { page, node, event } => put_fire(out, page, *node, event),
         Command::Template { name, template } => put_template(out, name, template),
         Command::Bare(bare) => put_bare(out, *bare),
     }

@@ -4,6 +4,8 @@ use Rattle.script_lines.specs.Views.{line_of}
 use Rattle.sig_untrack.specs.Stated.{Bodies, before, no_bodies}
 use Rattle.live_cmd.specs.declared.contents.Content.TheVariants as content
 use Rattle.live_cmd.specs.declared.command.Command.TheVariants as command
+use Rattle.body_text.specs.Allowances.{effects}
+use Rattle.live_cmd.specs.Blocks.{effect_of}
 use Rattle.live_cmd.proofs.Numbers.{refused_by}
 use Rattle.live_cmd.proofs.contents.effect_content.Goals as goal
 
@@ -13,5 +15,5 @@ returns-in-Ok c =
 
 pub returns-in_ok-content-in-Err : goal.returns-in_ok-content-in-Err
 returns-in_ok-content-in-Err c =
-    refused_by (map line_of c.args.lines.now) c.in-Err.fault.at c.number_at.result c.in-Err.fault.why c.in_ok-content-in-Err.content c.args.name c.args.inside
+    refused_by effects (map line_of c.args.lines.now) c.in-Err.fault.at c.number_at.result c.in-Err.fault.why c.in_ok-content-in-Err.content (effect_of c.args.name c.args.inside)
     (rw c.effect.ensures at c.in-Err.ensures.refused) c.in_ok-content-in-Err.ensures.lines c.number_at.ensures c.in_ok-content-in-Err.ensures.content
