@@ -10,8 +10,10 @@ use Rattle.sig_base.specs.declared.value.Value.TheVariants as value
 use Rattle.signal_model.specs.Recipes.{Hosts}
 use Rattle.signal_model.specs.Signals.{Signals, is_in}
 use Rattle.effect_model.specs.Owners.{Thing}
+use Rattle.signal_model.specs.Sound.{names_of}
+use Rattle.effect_model.specs.Bodies.{Act, to_set, to_log, BodyEvaluation, BodyResult, to_do, failed_by, body_evaluation}
 use Rattle.effect_model.specs.Worlds.{Environment, Event, World, ran, at_rest}
-use Rattle.effect_model.specs.Worlds.{settle}
+use Rattle.effect_model.specs.Worlds.{settle, logged, tell}
 use Rattle.effect_model.specs.Acts.{dispose_thing, forget, host_of, rewire_signal, set_cell, with_use}
 use Rattle.effect_model.specs.Commands.{armed, changed_watcher, with_new_computed}
 use Rattle.effect_model.specs.Batches.{Batch, abort, commit, give_back, is_other as is_other_value, joined_by, replaced_by, set_quietly, with_replacing}
@@ -20,6 +22,7 @@ use Rattle.page_model.specs.Pages.{bare}
 use Rattle.page_model.specs.Replay.{Op}
 use Rattle.live_cmd.specs.declared.command.Bare.{Bare}
 use Rattle.live_cmd.specs.declared.command.Bare.TheVariants as bares
+use Rattle.why_model.specs.declared.causes.Link.{Link}
 use Rattle.live_cmd.specs.declared.command.Command.{Command}
 use Rattle.live_cmd.specs.declared.command.Command.TheVariants as command
 use Rattle.live_cmd.specs.declared.command.Item.{Item}
@@ -34,12 +37,15 @@ use Rattle.live_model.specs.declared.names.Kind.{Kind}
 use Rattle.live_model.specs.declared.names.Kind.TheVariants as kind
 use Rattle.live_model.specs.declared.names.Meaning.{Meaning}
 use Rattle.live_model.specs.declared.names.Need.TheVariants as need
-use Rattle.live_model.specs.Labels.{Labels, labels_after, named as a_label, nobody, with_label}
+use Rattle.live_model.specs.Handlers.{Handling, fired_of, handlings_of}
+use Rattle.live_model.specs.Journals.{chain_in, link_entries, name_next, why_entries}
+use Rattle.live_model.specs.Labels.{Labels, labels_after, named as a_label, with_label}
 use Rattle.live_model.specs.Links.{linked_template, owner_of, recipe_of}
 use Rattle.live_model.specs.Machine as machine
-use Rattle.live_model.specs.Machine.{Machine, Told, acted, acted_on_pages, after_turns, body_refusal, updated_page, update_of, cleanup_entries, batch_refusal}
-use Rattle.live_model.specs.Machine.{disposing, done, empty, entries_of, event_entries, is_trying, later_refusal, mounted, name_refusal, news_of, ops_told, page_at}
-use Rattle.live_model.specs.Machine.{pending_labels, refusal_of, scratching, seen_of, settling, shown_of, source_labels, step, template_at, template_reads, reached}
+use Rattle.live_model.specs.Machine.{Machine, Told, acted, acted_on_pages, after_turns, updated_page, update_of}
+use Rattle.live_model.specs.Machine.{disposing, done, empty, entries_of, mounted, news_of, ops_told, page_at}
+use Rattle.live_model.specs.Machine.{refusal_of, scratching, settling, step, template_at, template_reads, reached}
+use Rattle.live_model.specs.Machine.{acting, acting_once, ending, firing, running}
 use Rattle.live_model.specs.Machine.{aborting, committing, done_alone, setting_by, update_all}
 use Rattle.live_model.specs.Names.{Names, first_refusal, meaning_of, number_of, refusal_at, thing_named}
 use Rattle.live_model.specs.Pages.{Page, Template, page_html, scratch_html}
@@ -60,8 +66,9 @@ use Rattle.sig_base.specs.declared.value.Value.{Value}
 use Rattle.signal_model.specs.Recipes.{Recipe}
 use Rattle.effect_model.specs.Worlds.{Refused}
 use Rattle.effect_model.specs.Acts.{are_alike, or_refused, rewire_standing, rewiring_refused, set_standing, with_drop, with_new_value, with_quiet_value}
-use Rattle.follow_laws.proofs.ToldEnds.{IsOff, Off, abort_off, dispose_off, flush_off, notified_off, quiet_off, rewire_off, set_off, settle_off}
-use Rattle.follow_laws.proofs.SpokenSteps.{TiedTo, after_first, empty_tied, first_fine, item_step, name_free, neither, next, pages_are, living_stay, no_page, same_names}
+use Rattle.follow_laws.proofs.ToldEnds.{IsOff, Off, abort_off, dispose_off, flush_off, notified_off, one_off, quiet_off, rewire_off, set_off, settle_off}
+use Rattle.follow_laws.proofs.SpokenSteps.{Idles, TiedTo, all_idle, end_idles, fire_idles, fired_idles, heard_idles, one_idles, run_idles}
+use Rattle.follow_laws.proofs.SpokenSteps.{after_first, empty_tied, first_fine, item_step, name_free, neither, next, pages_are, living_stay, no_page, same_names}
 
 -- ---- a machine behind a step
 
@@ -383,6 +390,15 @@ mount_hush env m n t inside tied q free =
     lives p e [] h = (ap (λ i. is_in i (m.world.pages ++ m.world.made.pages ∷ [])) e ∙ newest m.world.pages m.world.made.pages, tt)
     lives p e (r ∷ ps) h = (more m.world.pages r.number m.world.made.pages h.0, lives p e ps h.1)
 
+-- what is told of a chain ends no page
+links_silent : (ps : List Page) (names : List (List ℕ)) (n : List ℕ) (ls : List Link) → AreSilent ps (link_entries names n ls)
+links_silent ps names n [] = tt
+links_silent ps names n (l ∷ ls) = links_silent ps names (name_next names n l.cause) ls
+
+why_silent : (ps : List Page) (names : List (List ℕ)) (n : List ℕ) (o : Option (List Link)) → AreSilent ps (why_entries names n o)
+why_silent ps names n None = tt
+why_silent ps names n (Some ls) = links_silent ps names n ls
+
 verb_hush : (env : Environment) (m : Machine) (v : Verb) (n : List ℕ) → TiedTo m → Quiet m → Hushes m (machine.named env m v n (number_of m.names n))
 verb_hush env m verb.Get n t q =
     let i : ℕ = number_of m.names n in act_hush m (settle env (i ∷ []) m.world) (entry.Outcome n _ ∷ []) t q refl (settle_off env (i ∷ []) m.world (off_first m q)) tt
@@ -398,6 +414,8 @@ verb_hush env m verb.Dispose n t q = go (thing_named (meaning_of m.names n))
     go : (o : Option Thing) → Hushes m (disposing env m o)
     go None = same_hush m [] q tt
     go (Some x) = ended_hush m (dispose_thing env x m.world) t q (dispose_off env x m.world (off_first m q))
+verb_hush env m verb.Why n t q =
+    same_hush m (machine.named env m verb.Why n (number_of m.names n)).entries q (why_silent m.pages m.labels.signals n (chain_in m.journal (number_of m.names n)))
 verb_hush env m v n t q = same_hush m (machine.named env m v n (number_of m.names n)).entries q tt
 
 commit_hush : (env : Environment) (m : Machine) (b : Option Batch) → TiedTo m → Quiet m → Hushes m (committing env m b)
@@ -411,6 +429,7 @@ abort_hush m (Some b) t q = batch_hush m None (abort b m.world) t q (abort_pages
 alone_hush : (env : Environment) (m : Machine) (b : Bare) → TiedTo m → Quiet m → Hushes m (done_alone env m b)
 alone_hush env m bares.Flush t q = turns_hush env m (flush env m.world).world (flush env m.world).refused t q (flush_off env m.world (off_first m q))
 alone_hush env m bares.Begin t q = record { quiet = record { called = q.called; lives = q.lives; still = q.still }; silent = tt }
+alone_hush env m bares.Record t q = record { quiet = record { called = q.called; lives = q.lives; still = q.still }; silent = tt }
 alone_hush env m bares.Commit t q = commit_hush env m m.batch t q
 alone_hush env m bares.Abort t q = abort_hush m m.batch t q
 
@@ -421,6 +440,52 @@ set_hush env m None i v t q =
 set_hush env m (Some b) i v t q =
     batch_hush m (Some (joined_by env.slacks (standing m.world.signals i) i v b)) (set_quietly env i v m.world) t q
     (replacing_pages i v (replaced_by env.slacks (standing m.world.signals i) v) m.world) (quiet_off env i v m.world (off_first m q))
+
+-- ---- handlers of an event
+
+-- one step, and then another by which the pages stay
+hush_then : (m : Machine) (t u : Told) → Hushes m t → Idles t.machine u → Hushes t.machine u → Hushes m (reached u.machine (t.entries ++ u.entries))
+hush_then m t u a i b = record {
+  quiet = b.quiet;
+  silent = silent_both u.machine.pages t.entries u.entries (subst (λ (ps : List Page). AreSilent ps t.entries) (sym i.pages) a.silent) b.silent;
+}
+
+one_hush : (env : Environment) (m : Machine) (a : Act) → TiedTo m → Quiet m → Hushes m (acting_once env m a)
+one_hush env m (to_set n v) t q =
+    act_alone m (set_cell env n v m.world) t q (set_pages env (standing m.world.signals n) n v m.world) (set_off env n v m.world (off_first m q))
+one_hush env m (to_log v) t q = act_alone m (tell (logged v) m.world) t q refl (one_off m.world (logged v) (off_first m q) tt)
+one_hush env m _ t q = same_hush m [] q tt
+
+all_hush : (env : Environment) (m : Machine) (as' : List Act) → TiedTo m → Quiet m → Hushes m (acting env m as')
+all_hush env m [] t q = same_hush m [] q tt
+all_hush env m (a ∷ as') t q =
+    let one = acting_once env m a in
+    let first = one_hush env m a t q in
+    let tied = (one_idles env m a t).tied in
+    hush_then m one (acting env one.machine as') first (all_idle env one.machine as' tied) (all_hush env one.machine as' tied first.quiet)
+
+end_hush : (env : Environment) (m : Machine) (page : List ℕ) (node : ℕ) (r : BodyResult) → TiedTo m → Quiet m → Hushes m (ending env m page node r)
+end_hush env m page node (failed_by f) t q = same_hush m (entry.FailAt page node f ∷ []) q tt
+end_hush env m page node (to_do as') t q = all_hush env m as' t q
+
+run_hush : (env : Environment) (m : Machine) (page : List ℕ) (x : Handling) → TiedTo m → Quiet m → Hushes m (running env m page x)
+run_hush env m page x t q =
+    let e : BodyEvaluation = body_evaluation env.hosts m.world.signals x.body in
+    let s : Told = settling env m (names_of e.reads) in
+    let end : Told = ending env s.machine page x.node e.result in
+    let tied = (heard_idles env m (names_of e.reads) t).tied in
+    let first = act_alone m (settle env (names_of e.reads) m.world) t q refl (settle_off env (names_of e.reads) m.world (off_first m q)) in
+    hush_then m s (reached end.machine (entry.Fired page x.node ∷ end.entries)) first (fired_idles env s.machine page x.node e.result tied)
+    (hush_then s.machine (reached s.machine (entry.Fired page x.node ∷ [])) end (same_hush s.machine (entry.Fired page x.node ∷ []) first.quiet tt)
+    (end_idles env s.machine page x.node e.result tied) (end_hush env s.machine page x.node e.result tied first.quiet))
+
+fire_hush : (env : Environment) (m : Machine) (page : List ℕ) (xs : List Handling) → TiedTo m → Quiet m → Hushes m (firing env m page xs)
+fire_hush env m page [] t q = same_hush m [] q tt
+fire_hush env m page (x ∷ xs) t q =
+    let one = running env m page x in
+    let first = run_hush env m page x t q in
+    let tied = (run_idles env m page x t).tied in
+    hush_then m one (firing env one.machine page xs) first (fire_idles env one.machine page xs tied) (fire_hush env one.machine page xs tied first.quiet)
 
 done_hush : (env : Environment) (m : Machine) (c : Command) → TiedTo m → Quiet m → refusal_of env.slacks m c ≡ None → Hushes m (done env m c)
 done_hush env m (command.Cell n v equals inside) t q e =
@@ -452,6 +517,9 @@ done_hush env m (command.Unwatch n x) t q e =
 done_hush env m (command.Named v n) t q e = verb_hush env m v n t q
 done_hush env m (command.Effect n b inside) t q e =
     made_hush m n _ _ _ _ q refl refl (effect_called m n m.world.made.effects q (new_fine env.slacks m (command.Effect n b inside) n _ refl e))
+done_hush env m (command.On x line event b) t q e = record { quiet = record { called = q.called; lives = q.lives; still = q.still }; silent = tt }
+done_hush env m (command.Fire p node event) t q e =
+    fire_hush env m p (handlings_of m.handlers (fired_of m.handlers (page_at m.pages (number_of m.names p)) node event)) t q
 done_hush env m (command.Template n x) t q e =
     made_hush m n (record { kind = kind.Template; number = length m.templates }) m.labels m.world (m.templates ++ linked_template m.names x ∷ []) q refl q.still
     (called_more m.names (n, record { kind = kind.Template; number = length m.templates }) m.labels q.called)

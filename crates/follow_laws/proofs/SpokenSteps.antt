@@ -10,9 +10,11 @@ use Rattle.sig_base.specs.declared.value.Value.{Value}
 use Rattle.sig_base.specs.declared.value.Value.TheVariants as value
 use Rattle.signal_model.specs.Recipes.{Hosts}
 use Rattle.signal_model.specs.Signals.{Signals, is_in, standing}
+use Rattle.signal_model.specs.Sound.{names_of}
+use Rattle.effect_model.specs.Bodies.{Act, to_set, to_log, BodyEvaluation, BodyResult, to_do, failed_by, body_evaluation}
 use Rattle.effect_model.specs.Owners.{Thing}
 use Rattle.effect_model.specs.Worlds.{Environment, World, at_rest}
-use Rattle.effect_model.specs.Worlds.{settle}
+use Rattle.effect_model.specs.Worlds.{settle, logged, tell}
 use Rattle.effect_model.specs.Acts.{dispose_thing, forget, host_of, rewire_signal, set_cell, with_use}
 use Rattle.effect_model.specs.Commands.{armed, changed_watcher, with_new_computed}
 use Rattle.effect_model.specs.Batches.{Batch, abort, commit, joined_by, set_quietly}
@@ -23,6 +25,8 @@ use Rattle.page_model.specs.Replay.{Op}
 use Rattle.tpl_model.specs.Sources.{template_shape}
 use Rattle.live_cmd.specs.declared.command.Bare.{Bare}
 use Rattle.live_cmd.specs.declared.command.Bare.TheVariants as bares
+use Rattle.why_model.specs.declared.causes.Link.{Link}
+use Rattle.why_model.specs.Records.{Journal}
 use Rattle.live_cmd.specs.declared.command.Command.{Command}
 use Rattle.live_cmd.specs.declared.command.Command.TheVariants as command
 use Rattle.live_cmd.specs.declared.command.Item.{Item}
@@ -37,12 +41,15 @@ use Rattle.live_model.specs.declared.names.Kind.{Kind}
 use Rattle.live_model.specs.declared.names.Kind.TheVariants as kind
 use Rattle.live_model.specs.declared.names.Meaning.{Meaning}
 use Rattle.live_model.specs.declared.names.Need.TheVariants as need
+use Rattle.live_model.specs.Handlers.{Handling, fired_of, handlings_of}
+use Rattle.live_model.specs.Journals.{chain_in, link_entries, name_next, noting, why_entries}
 use Rattle.live_model.specs.Labels.{Labels, labels_after}
 use Rattle.live_model.specs.Links.{linked_template, owner_of, recipe_of}
 use Rattle.live_model.specs.Machine as machine
-use Rattle.live_model.specs.Machine.{Machine, Told, acted, acted_on_pages, after_turns, body_refusal, updated_page, update_of, cleanup_entries, batch_refusal}
-use Rattle.live_model.specs.Machine.{disposing, done, empty, entries_of, event_entries, is_trying, later_refusal, mounted, name_refusal, news_of, ops_told, page_at}
-use Rattle.live_model.specs.Machine.{pending_labels, refusal_of, scratching, seen_of, settling, shown_of, source_labels, step, template_at, template_reads, reached}
+use Rattle.live_model.specs.Machine.{Machine, Told, acted, acted_on_pages, after_turns, body_refusal, updated_page, update_of, batch_refusal}
+use Rattle.live_model.specs.Machine.{disposing, done, empty, entries_of, later_refusal, mounted, name_refusal, news_of, ops_told, page_at}
+use Rattle.live_model.specs.Machine.{refusal_of, scratching, settling, shown_of, step, template_at, template_reads, reached}
+use Rattle.live_model.specs.Machine.{acting, acting_once, ending, firing, running}
 use Rattle.live_model.specs.Machine.{aborting, committing, done_alone, setting_by, update_all}
 use Rattle.live_model.specs.Names.{Names, first_refusal, meaning_of, number_of, refusal_at, thing_named}
 use Rattle.live_model.specs.Pages.{Page, Template, page_html, scratch_html, template_in}
@@ -92,9 +99,14 @@ rest_step m labels w es e k h s = record { tied = rest_tied m labels w e k h; sp
 same_step : (m : Machine) (es : List Entry) → TiedTo m → AreSpoken m.pages es → Tells m (reached m es)
 same_step m es h s = record { tied = h; spoken = s; fresh = no_news m; stay = λ n u. u }
 
+-- what is noted is of no page
+noted_step : (m : Machine) (j : Option Journal) (t : Told) → Tells m t → Tells m (reached (record (t.machine) { journal = j }) t.entries)
+noted_step m j t s = record { tied = s.tied; spoken = s.spoken; fresh = s.fresh; stay = s.stay }
+
 act_step : (m : Machine) (w : World) → TiedTo m → Within m.world.made.pages m.world.pages w → Tells m (acted m w)
 act_step m w h k =
-    rest_step m (labels_after w.told m.labels) (at_rest w) (entries_of m.labels w.told) (labels_stay w.told m.labels) k h (events_alone m.pages m.labels w.told)
+    noted_step m (noting w.told m.journal) (reached (record m { labels = labels_after w.told m.labels; world = at_rest w }) (entries_of m.labels w.told))
+    (rest_step m (labels_after w.told m.labels) (at_rest w) (entries_of m.labels w.told) (labels_stay w.told m.labels) k h (events_alone m.pages m.labels w.told))
 
 -- the same, and a batch is open that was another one, or none is
 batch_step : (m : Machine) (b : Option Batch) (w : World) → TiedTo m → Within m.world.made.pages m.world.pages w → Tells m (acted (record m { batch = b }) w)
@@ -105,8 +117,9 @@ batch_step m b w h k =
 answer_step : (m : Machine) (w : World) (answers : List Entry) → TiedTo m → Within m.world.made.pages m.world.pages w → AreSpoken m.pages answers →
     Tells m (reached (acted m w).machine ((acted m w).entries ++ answers))
 answer_step m w answers h k s =
-    rest_step m (labels_after w.told m.labels) (at_rest w) (entries_of m.labels w.told ++ answers) (labels_stay w.told m.labels) k h
-    (events_spoken m.pages m.labels w.told answers s)
+    noted_step m (noting w.told m.journal) (reached (record m { labels = labels_after w.told m.labels; world = at_rest w }) (entries_of m.labels w.told ++ answers))
+    (rest_step m (labels_after w.told m.labels) (at_rest w) (entries_of m.labels w.told ++ answers) (labels_stay w.told m.labels) k h
+    (events_spoken m.pages m.labels w.told answers s))
 
 -- the pages that live stay
 ended_tied : (m : Machine) (w : World) → Within m.world.made.pages m.world.pages w → TiedTo m → TiedTo (acted_on_pages m w).machine
@@ -524,6 +537,15 @@ first_fine slacks m c e =
     let names = (neither (name_refusal m c) (later_refusal slacks m c) behind.1).0 in
     (neither (first_refusal m.world m.names (uses_of c)) (body_refusal m c) names).0
 
+-- what is told of a chain is of no page
+links_spoken : (ps : List Page) (names : List (List ℕ)) (n : List ℕ) (ls : List Link) → AreSpoken ps (link_entries names n ls)
+links_spoken ps names n [] = tt
+links_spoken ps names n (l ∷ ls) = links_spoken ps names (name_next names n l.cause) ls
+
+why_spoken : (ps : List Page) (names : List (List ℕ)) (n : List ℕ) (o : Option (List Link)) → AreSpoken ps (why_entries names n o)
+why_spoken ps names n None = tt
+why_spoken ps names n (Some ls) = links_spoken ps names n ls
+
 verb_step : (env : Environment) (m : Machine) (v : Verb) (n : List ℕ) → TiedTo m → first_refusal m.world m.names (uses_of (command.Named v n)) ≡ None →
     Tells m (machine.named env m v n (number_of m.names n))
 verb_step env m verb.Get n h e =
@@ -531,6 +553,8 @@ verb_step env m verb.Get n h e =
 verb_step env m verb.Show n h e = show_step m n h (neither (refusal_at m.world (n, need.Of kind.Page) (meaning_of m.names n)) None e).0
 verb_step env m verb.Scratch n h e = scratch_step env m n (page_at m.pages (number_of m.names n)) h
 verb_step env m verb.Dispose n h e = dispose_step env m (thing_named (meaning_of m.names n)) h
+verb_step env m verb.Why n h e =
+    same_step m (machine.named env m verb.Why n (number_of m.names n)).entries h (why_spoken m.pages m.labels.signals n (chain_in m.journal (number_of m.names n)))
 verb_step env m v n h e = same_step m (machine.named env m v n (number_of m.names n)).entries h tt
 
 commit_step : (env : Environment) (m : Machine) (b : Option Batch) → TiedTo m → Tells m (committing env m b)
@@ -546,6 +570,7 @@ alone_step env m bares.Flush h =
     turns_step env m (flush env m.world).world (flush env m.world).refused h
     (flushed m.world.made.pages m.world.pages env m.world (at_first m.world))
 alone_step env m bares.Begin h = record { tied = h; spoken = tt; fresh = no_news m; stay = λ n u. u }
+alone_step env m bares.Record h = record { tied = h; spoken = tt; fresh = no_news m; stay = λ n u. u }
 alone_step env m bares.Commit h = commit_step env m m.batch h
 alone_step env m bares.Abort h = abort_step m m.batch h
 
@@ -555,6 +580,88 @@ set_step env m None i v h = act_step m (set_cell env i v m.world) h (cell_set m.
 set_step env m (Some b) i v h =
     batch_step m (Some (joined_by env.slacks (standing m.world.signals i) i v b)) (set_quietly env i v m.world) h
     (quietly_set m.world.made.pages m.world.pages env i v m.world (at_first m.world))
+
+-- ---- handlers of an event
+
+-- the pages and the names stay, and of pages nothing is told
+pub record Idles (m : Machine) (t : Told) : Type 0 where
+  pub tied : TiedTo t.machine
+  pub pages : t.machine.pages ≡ m.pages
+  pub names : t.machine.names ≡ m.names
+  pub spoken : (rest : List Entry) → AreSpoken m.pages rest → AreSpoken m.pages (t.entries ++ rest)
+
+told_idles : (m : Machine) (es : List Entry) → TiedTo m → ((rest : List Entry) → AreSpoken m.pages rest → AreSpoken m.pages (es ++ rest)) → Idles m (reached m es)
+told_idles m es h s = record { tied = h; pages = refl; names = refl; spoken = s }
+
+acted_idles : (m : Machine) (w : World) → TiedTo m → Within m.world.made.pages m.world.pages w → Idles m (acted m w)
+acted_idles m w h k = record {
+  tied = (act_step m w h k).tied;
+  pages = refl;
+  names = refl;
+  spoken = λ rest s. events_spoken m.pages m.labels w.told rest s;
+}
+
+idles_then : (m : Machine) (t u : Told) → Idles m t → Idles t.machine u → Idles m (reached u.machine (t.entries ++ u.entries))
+idles_then m t u a b = record {
+  tied = b.tied;
+  pages = b.pages ∙ a.pages;
+  names = b.names ∙ a.names;
+  spoken = λ rest s. subst (AreSpoken m.pages) (sym (append_assoc t.entries u.entries rest))
+      (a.spoken (u.entries ++ rest)
+      (subst (λ (ps : List Page). AreSpoken ps (u.entries ++ rest)) a.pages (b.spoken rest (subst (λ (ps : List Page). AreSpoken ps rest) (sym a.pages) s))));
+}
+
+-- one act, acts, and their end
+pub one_idles : (env : Environment) (m : Machine) (a : Act) → TiedTo m → Idles m (acting_once env m a)
+one_idles env m (to_set n v) h =
+    acted_idles m (set_cell env n v m.world) h (cell_set m.world.made.pages m.world.pages env n v m.world (at_first m.world))
+one_idles env m (to_log v) h = acted_idles m (tell (logged v) m.world) h (at_first m.world)
+one_idles env m _ h = told_idles m [] h (λ rest s. s)
+
+pub all_idle : (env : Environment) (m : Machine) (as' : List Act) → TiedTo m → Idles m (acting env m as')
+all_idle env m [] h = told_idles m [] h (λ rest s. s)
+all_idle env m (a ∷ as') h =
+    let t = acting_once env m a in
+    let one = one_idles env m a h in idles_then m t (acting env t.machine as') one (all_idle env t.machine as' one.tied)
+
+pub end_idles : (env : Environment) (m : Machine) (page : List ℕ) (node : ℕ) (r : BodyResult) → TiedTo m → Idles m (ending env m page node r)
+end_idles env m page node (failed_by f) h = told_idles m (entry.FailAt page node f ∷ []) h (λ rest s. s)
+end_idles env m page node (to_do as') h = all_idle env m as' h
+
+-- that a handler runs is told, and then its end
+pub fired_idles : (env : Environment) (m : Machine) (page : List ℕ) (node : ℕ) (r : BodyResult) → TiedTo m →
+    Idles m (reached (ending env m page node r).machine (entry.Fired page node ∷ (ending env m page node r).entries))
+fired_idles env m page node r h =
+    idles_then m (reached m (entry.Fired page node ∷ [])) (ending env m page node r) (told_idles m (entry.Fired page node ∷ []) h (λ rest s. s))
+    (end_idles env m page node r h)
+
+pub heard_idles : (env : Environment) (m : Machine) (names : List ℕ) → TiedTo m → Idles m (settling env m names)
+heard_idles env m names h = acted_idles m (settle env names m.world) h (at_first m.world)
+
+pub run_idles : (env : Environment) (m : Machine) (page : List ℕ) (x : Handling) → TiedTo m → Idles m (running env m page x)
+run_idles env m page x h =
+    let e : BodyEvaluation = body_evaluation env.hosts m.world.signals x.body in
+    let s : Told = settling env m (names_of e.reads) in
+    let end : Told = ending env s.machine page x.node e.result in
+    let first = heard_idles env m (names_of e.reads) h in
+    idles_then m s (reached end.machine (entry.Fired page x.node ∷ end.entries)) first (fired_idles env s.machine page x.node e.result first.tied)
+
+pub fire_idles : (env : Environment) (m : Machine) (page : List ℕ) (xs : List Handling) → TiedTo m → Idles m (firing env m page xs)
+fire_idles env m page [] h = told_idles m [] h (λ rest s. s)
+fire_idles env m page (x ∷ xs) h =
+    let t = running env m page x in
+    let one = run_idles env m page x h in idles_then m t (firing env t.machine page xs) one (fire_idles env t.machine page xs one.tied)
+
+fire_step : (env : Environment) (m : Machine) (page : List ℕ) (xs : List Handling) → TiedTo m → Tells m (firing env m page xs)
+fire_step env m page xs h =
+    let t : Told = firing env m page xs in
+    let i : Idles m t = fire_idles env m page xs h in
+    record {
+      tied = i.tied;
+      spoken = subst (λ (ps : List Page). AreSpoken ps t.entries) (sym i.pages) (subst (AreSpoken m.pages) (append-nil t.entries) (i.spoken [] tt));
+      fresh = λ n a b. no_news m n (ap (λ (ps : List Page). has_page ps n) (sym i.pages) ∙ a) b;
+      stay = λ n u. ap (λ (ns : Names). meaning_of ns n) (sym i.names) ∙ u;
+    }
 
 pub no_page : (k : Kind) (i j : ℕ) → (k ≡ kind.Page → ⊥) → record { kind = k; number = i } ≡ a_page j → ⊥
 no_page k i j f e = f (ap (λ (x : Meaning). x.kind) e)
@@ -583,6 +690,9 @@ done_step env m (command.Unwatch n x) h e =
     act_step m (changed_watcher (number_of m.names n) (forget (number_of m.names x)) m.world) h (at_first m.world)
 done_step env m (command.Named v n) h e = verb_step env m v n h (first_fine env.slacks m (command.Named v n) e)
 done_step env m (command.Effect n b inside) h e = make_step m n _ _ _ _ refl (at_first m.world) (λ i. no_page kind.Effect _ i (λ x. cc)) h
+done_step env m (command.On t line event b) h e = record { tied = h; spoken = tt; fresh = no_news m; stay = λ n u. u }
+done_step env m (command.Fire p node event) h e =
+    fire_step env m p (handlings_of m.handlers (fired_of m.handlers (page_at m.pages (number_of m.names p)) node event)) h
 done_step env m (command.Template n t) h e =
     make_step m n (record { kind = kind.Template; number = length m.templates }) m.labels m.world (m.templates ++ linked_template m.names t ∷ []) refl
     (at_first m.world) (λ i. no_page kind.Template _ i (λ x. cc)) h

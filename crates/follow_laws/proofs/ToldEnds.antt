@@ -66,7 +66,7 @@ runs_off ps (m ∷ ms) = (tt, runs_off ps ms)
 pub settle_off : (env : Environment) (names : List ℕ) (w : World) → Off w → Off (settle env names w)
 settle_off env names w h = all_append (IsOff w.pages) w.told (map ran _) h (runs_off w.pages _)
 
-one_off : (w : World) (e : Event) → Off w → IsOff w.pages e → Off (tell e w)
+pub one_off : (w : World) (e : Event) → Off w → IsOff w.pages e → Off (tell e w)
 one_off w e h k = all_snoc (IsOff w.pages) w.told e h k
 
 pub notified_off : (ns : List ℕ) (w : World) → Off w → Off (notify_of_all ns w)

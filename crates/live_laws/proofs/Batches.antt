@@ -13,9 +13,11 @@ use Rattle.signal_model.specs.Changes.{with_value}
 use Rattle.signal_model.specs.Settling.{settled}
 use Rattle.signal_model.specs.Values.{value_of}
 use Rattle.signal_laws.proofs.Shared.{all_append, found_changed}
-use Rattle.effect_model.specs.Worlds.{Environment, Event, Watcher, World, ran, settle, at_rest}
+use Rattle.effect_model.specs.Worlds.{Environment, Event, Watcher, World, ran, settle, at_rest, changed_signal}
 use Rattle.effect_model.specs.Acts.{are_alike, frozen_by, notified_by_any, with_quiet_value}
 use Rattle.effect_model.specs.Batches.{Batch, abort, commit, give_back, is_other, joined, joined_replaced, net_of, replaced_by, with_replacing}
+use Rattle.effect_model.specs.declared.how.How.TheVariants.{Set}
+use Rattle.why_model.specs.Records.{Journal}
 use Rattle.effect_tables.proofs.Shared.{listed_twice}
 use Rattle.live_cmd.specs.declared.command.Bare.TheVariants as bares
 use Rattle.live_cmd.specs.declared.command.Command.{Command}
@@ -28,6 +30,8 @@ use Rattle.live_entries.specs.declared.entry.Entry.{Entry}
 use Rattle.live_entries.specs.declared.entry.Entry.TheVariants as entry
 use Rattle.live_entries.specs.declared.refusal.Refusal.{Refusal}
 use Rattle.live_entries.specs.declared.refusal.Refusal.TheVariants as refusal
+use Rattle.live_model.proofs.Shared.{unnoted}
+use Rattle.live_model.specs.Journals.{noting}
 use Rattle.live_model.specs.Labels.{Labels, labels_after}
 use Rattle.live_model.specs.Machine.{Machine, Told, aborting, acted, batch_refusal, committing, done, entries_of, is_done_in_batch, is_ending, later_refusal, name_refusal, named, page_at, reached, refused, scratching, setting_by, step, template_at, template_reads}
 use Rattle.live_model.specs.Names.{number_of}
@@ -35,6 +39,7 @@ use Rattle.live_model.specs.Output.{entries_from, machine_after}
 use Rattle.live_model.specs.Pages.{Page, scratch_html}
 use Rattle.live_model.specs.Rows.{edited, rows_at}
 use Rattle.live_laws.specs.Batches.{AbortLaw, AreUntold, BatchChangeLaw, CollectsLaw, CommitLaw, GivenBackLaw, IsBegun, aborts, begins, is_end, is_notice, rest_of, unsignalled}
+use Rattle.live_laws.specs.Refusals.{freezing, notices, valued, warned}
 use Rattle.live_laws.proofs.Entries.{IsUntold, none_untold, quiet_untold}
 use Rattle.live_laws.proofs.Refusals.{acted_as, acted_notices, set_done}
 
@@ -59,8 +64,8 @@ abbrev set_replacing : Environment → Machine → Batch → ℕ → Value → O
 set_replacing env m b i v o = acted (record m { batch = Some (joined_replaced i o b) }) (with_replacing i v o m.world)
 
 -- a world of which nothing is told
-acted_quietly : (m : Machine) (w : World) → IsUntold m.labels w.told → acted m w ≡ reached (record m { world = at_rest w }) []
-acted_quietly m w h = acted_as m w [] h.named h.entries
+acted_quietly : (m : Machine) (w : World) → IsUntold m.labels w.told → acted m w ≡ reached (record m { world = at_rest w; journal = noting w.told m.journal }) []
+acted_quietly m w h = acted_as m w [] w.told h.named h.entries refl
 
 pub batch_change_law : BatchChangeLaw
 batch_change_law env m b c i v x quiet is fine change stands other =
@@ -70,6 +75,11 @@ batch_change_law env m b c i v x quiet is fine change stands other =
     ∙ ap (set_replacing env m b i v) (replaced_here env m.world i v x stands other)
     ∙ acted_quietly (record m { batch = Some (joined i x.value b) }) (with_quiet_value i v m.world)
     (quiet_untold m.labels i v m.world (none_untold m.labels m.world.told quiet))
+    ∙ ap (λ (es : List Event). reached (record m {
+      world = at_rest (valued i v m.world);
+      batch = Some (joined i x.value b);
+      journal = noting (es ++ changed_signal i Set ∷ []) m.journal;
+    }) []) quiet
 
 pub commit_law : CommitLaw
 commit_law env m b quiet is =
@@ -78,6 +88,8 @@ commit_law env m b quiet is =
     word_step env m (Some b) (command.Bare bares.Commit) is refl refl
     ∙ ap (committing env m) is
     ∙ acted_notices (record m { batch = None }) (commit env b m.world) m.world.told xs (frozen_by xs) refl (none_untold m.labels m.world.told quiet)
+    ∙ ap (λ (j : Option Journal). reached (record m { world = at_rest (warned ns m.world); batch = None; journal = j }) (notices m.labels xs ++ freezing m.labels (frozen_by xs)))
+    (ap (λ (es : List Event). noting es m.journal) quiet ∙ unnoted m.journal)
 
 -- giving back tells nothing
 back_untold : (labels : Labels) (n : ℕ) (v : Value) (w : World) → IsUntold labels w.told → IsUntold labels (give_back n v w).told
@@ -143,8 +155,8 @@ record IsOpen (base m : Machine) : Type 0 where
 rest_same : (m : Machine) (labels : Labels) (w : World) (b : Option Batch) → labels ≡ m.labels → unsignalled w ≡ unsignalled m.world →
     rest_of (record m { labels = labels; world = at_rest w; batch = b }) ≡ rest_of m
 rest_same m labels w b e f =
-    (λ i. record m { labels = e i; world = record (unsignalled w) { owned = listed_twice w.owned i }; batch = None })
-    ∙ ap (λ (v : World). record m { world = v; batch = None }) f
+    (λ i. record m { labels = e i; world = record (unsignalled w) { owned = listed_twice w.owned i }; batch = None; journal = None })
+    ∙ ap (λ (v : World). record m { world = v; batch = None; journal = None }) f
 
 -- ---- what joins
 
@@ -301,6 +313,7 @@ stays_verb : (base : Machine) (env : Environment) (m : Machine) (v : Verb) (n : 
 stays_verb base env m verb.Get n i k e = stays_settled base env m (i ∷ []) (entry.Outcome n (value_of env.hosts m.world.signals i [])) k refl
 stays_verb base env m verb.Scratch n i k e = stays_scratch base env m n (page_at m.pages i) k
 stays_verb base env m verb.Dispose n i k e = cc
+stays_verb base env m verb.Why n i k e = cc
 stays_verb base env m v n i k e = stays_same base m (named env m v n i).entries k (refl, tt)
 
 stays_done : (base : Machine) (env : Environment) (m : Machine) (c : Command) → IsOpen base m → is_done_in_batch c ≡ true → is_ending c ≡ false →
@@ -313,6 +326,7 @@ stays_done base env m (command.Bare bares.Flush) k e h = cc
 stays_done base env m (command.Bare bares.Begin) k e h = cc
 stays_done base env m (command.Bare bares.Commit) k e h = cc
 stays_done base env m (command.Bare bares.Abort) k e h = cc
+stays_done base env m (command.Bare bares.Record) k e h = cc
 stays_done base env m _ k e h = cc
 
 -- a refusal

@@ -1,5 +1,5 @@
 -- How what happens is told.
-use Rattle.std.proofs.Common.{◌≡◌, ℕ, true, List, [], ◌∷◌, ◌++◌, append_assoc, refl, sym, ap, ◌∙◌, subst}
+use Rattle.std.proofs.Common.{◌≡◌, ℕ, true, List, [], ◌∷◌, ◌++◌, append_assoc, Option, Some, None, refl, sym, ap, ◌∙◌, subst}
 use Rattle.std.specs.List.{list_all}
 use Rattle.std.proofs.lemmas.Bool.{and_parts}
 use Rattle.std.proofs.lemmas.List.{append-nil}
@@ -13,6 +13,8 @@ use Rattle.live_entries.specs.declared.entry.Entry.TheVariants as entry
 use Rattle.live_model.specs.Labels.{Labels, labels_after, relabelled}
 use Rattle.live_model.specs.Machine.{entries_of, event_entries, news_of, ops_told}
 use Rattle.live_model.specs.Pages.{Page, page_html}
+use Rattle.why_model.specs.declared.causes.Link.{Link}
+use Rattle.live_model.specs.Journals.{link_entries, name_next, why_entries}
 use Rattle.live_laws.specs.Events.{IsTold, answered, event_told, is_answer, no_more}
 
 -- one after the other
@@ -30,7 +32,7 @@ entries_more labels (e ∷ es) more =
     ap (λ ts. event_entries labels e ++ ts) (entries_more (relabelled e labels) es more)
     ∙ sym (append_assoc (event_entries labels e) (entries_of (relabelled e labels) es) (entries_of (labels_after es (relabelled e labels)) more))
 
-labels_more : (labels : Labels) (es more : List Event) → labels_after (es ++ more) labels ≡ labels_after more (labels_after es labels)
+pub labels_more : (labels : Labels) (es more : List Event) → labels_after (es ++ more) labels ≡ labels_after more (labels_after es labels)
 labels_more labels [] more = refl
 labels_more labels (e ∷ es) more = labels_more (relabelled e labels) es more
 
@@ -91,3 +93,12 @@ page_answers n (o ∷ ops) html = page_answers n ops html
 pub news_answer : (p : Page) (ops : List Op) → list_all is_answer (news_of p ops) ≡ true
 news_answer p [] = refl
 news_answer p (o ∷ ops) = page_answers p.name (o ∷ ops) (page_html p)
+
+-- what is told of a chain answers
+links_answer : (names : List (List ℕ)) (n : List ℕ) (ls : List Link) → list_all is_answer (link_entries names n ls) ≡ true
+links_answer names n [] = refl
+links_answer names n (l ∷ ls) = links_answer names (name_next names n l.cause) ls
+
+pub why_answers : (names : List (List ℕ)) (n : List ℕ) (o : Option (List Link)) → list_all is_answer (why_entries names n o) ≡ true
+why_answers names n None = refl
+why_answers names n (Some ls) = links_answer names n ls

@@ -1,7 +1,9 @@
 mod Fine
 mod Entries
 mod Rests
+mod Firing
 mod Events
+mod WholeJournals
 mod Refusals
 mod Batches
 mod Ends

@@ -20,7 +20,7 @@ told_on env (c ∷ cs) w h =
     ∙ ap (λ u. (after_command env w c).told ++ told_by env u cs) (r.whole w h)
     ∙ told_on env cs (after_command env w c) (r.bare w h)
 
-told_all : (env : Environment) (n : ℕ) (cs : List Command) → told_by env (new_world n) cs ≡ (after_commands env (new_world n) cs).told
+pub told_all : (env : Environment) (n : ℕ) (cs : List Command) → told_by env (new_world n) cs ≡ (after_commands env (new_world n) cs).told
 told_all env n cs = told_on env cs (new_world n) tt
 
 ends_rested : (env : Environment) (n : ℕ) (cs : List Command) → AreEnds (told_by env (new_world n) cs)

@@ -5,10 +5,11 @@ use Rattle.std.specs.Map.{keys_of}
 use Rattle.sig_base.specs.declared.value.Value.{Value}
 use Rattle.signal_model.specs.Changes.{no_memos, no_signals}
 use Rattle.signal_model.specs.Signals.{Cell, IsCell, Signals, is_in, standing}
-use Rattle.effect_model.specs.Worlds.{Environment, World, at_rest}
+use Rattle.effect_model.specs.Worlds.{Environment, World, at_rest, changed_signal}
 use Rattle.effect_model.specs.Acts.{are_alike, frozen_by, notified_by_any}
 use Rattle.effect_model.specs.Batches.{Batch, abort, joined, net_of}
 use Rattle.effect_model.specs.Owners.{listed}
+use Rattle.effect_model.specs.declared.how.How.TheVariants.{Set}
 use Rattle.live_cmd.specs.declared.command.Bare.TheVariants as bares
 use Rattle.live_cmd.specs.declared.command.Command.{Command}
 use Rattle.live_cmd.specs.declared.command.Command.TheVariants as command
@@ -16,17 +17,22 @@ use Rattle.live_cmd.specs.declared.command.Item.{Item}
 use Rattle.live_cmd.specs.declared.command.Item.TheVariants as item
 use Rattle.live_entries.specs.declared.entry.Entry.{Entry}
 use Rattle.live_entries.specs.declared.entry.Entry.TheVariants as entry
+use Rattle.live_model.specs.Journals.{noting}
 use Rattle.live_model.specs.Machine.{Machine, is_ending, reached, refusal_of, step}
 use Rattle.live_model.specs.Output.{entries_from, machine_after}
 use Rattle.live_laws.specs.Refusals.{IsChange, freezing, notices, valued, warned}
 
 -- ---- a change while it is open
 
--- The change of a cell stands, nobody is notified, and the cell joins the batch with its value before, unless it is there.
+-- The change of a cell stands and is noted, nobody is notified, and the cell joins the batch with its value before, unless it is there.
 abbrev pub BatchChangeLaw : Type 0
 BatchChangeLaw = (env : Environment) (m : Machine) (b : Batch) (c : Command) (i : ℕ) (v : Value) (x : Cell) → m.world.told ≡ [] → m.batch ≡ Some b →
     refusal_of env.slacks m c ≡ None → IsChange m c i v → standing m.world.signals i ≡ IsCell x → are_alike env.slacks x.rule x.value v ≡ false →
-    step env m (item.Do c) ≡ reached (record m { world = at_rest (valued i v m.world); batch = Some (joined i x.value b) }) []
+    step env m (item.Do c) ≡ reached (record m {
+      world = at_rest (valued i v m.world);
+      batch = Some (joined i x.value b);
+      journal = noting (changed_signal i Set ∷ []) m.journal;
+    }) []
 
 -- ---- a commit
 
@@ -41,10 +47,11 @@ CommitLaw = (env : Environment) (m : Machine) (b : Batch) → m.world.told ≡ [
 
 -- ---- an abort
 
--- The batch is ended, its cells have their earlier values back, and nobody is notified.
+-- The batch is ended, its cells have their earlier values back, which is noted, and nobody is notified.
 abbrev pub AbortLaw : Type 0
 AbortLaw = (env : Environment) (m : Machine) (b : Batch) → m.world.told ≡ [] → m.batch ≡ Some b →
-    step env m (item.Do (command.Bare bares.Abort)) ≡ reached (record m { world = at_rest (abort b m.world); batch = None }) []
+    step env m (item.Do (command.Bare bares.Abort))
+    ≡ reached (record m { world = at_rest (abort b m.world); batch = None; journal = noting (abort b m.world).told m.journal }) []
 
 -- ---- from its beginning to its end
 
@@ -71,12 +78,12 @@ abbrev pub AreUntold : Environment → Machine → List Item → Type 0
 AreUntold env m is = AllByRecursion (λ (e : Entry). is_notice e ≡ false) (entries_from env m is)
 
 -- A world without its signals and what is kept of them, and without what was told and what stands at the top and can't own. So the rest of a
--- machine is what it has beside a batch and these.
+-- machine is what it has beside a batch, a journal and these.
 abbrev pub unsignalled : World → World
 unsignalled w = record w { signals = no_signals; memos = no_memos; host_states = []; owned = listed w.owned; told = [] }
 
 abbrev pub rest_of : Machine → Machine
-rest_of m = record m { world = unsignalled m.world; batch = None }
+rest_of m = record m { world = unsignalled m.world; batch = None; journal = None }
 
 -- a cell stood there with that value
 abbrev pub IsBegun : Signals → (ℕ × Value) → Type 0
@@ -97,7 +104,7 @@ abbrev pub CollectsLaw : Type 0
 CollectsLaw = (env : Environment) (m : Machine) (is : List Item) → m.world.told ≡ [] → m.batch ≡ None →
     AllByRecursion (λ (i : Item). is_end i ≡ false) is → Collects env m (begins ∷ is)
 
--- A batch that is aborted leaves nothing behind but what was evaluated in it: under each name stands what stood there as it began, so does the
+-- A batch that is aborted leaves nothing behind but what was evaluated and noted in it: under each name stands what stood there as it began, so does the
 -- rest of the machine, and nobody was notified.
 pub record LeavesNothing (env : Environment) (m : Machine) (is : List Item) : Type 0 where
   pub signals : (n : ℕ) → standing (machine_after env m is).world.signals n ≡ standing m.world.signals n

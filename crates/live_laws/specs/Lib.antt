@@ -1,4 +1,5 @@
 pub mod Events
+pub mod Firing
 pub mod Refusals
 pub mod Batches
 pub mod Rested

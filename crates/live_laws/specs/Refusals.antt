@@ -6,9 +6,10 @@ use Rattle.sig_base.specs.declared.value.Value.{Value}
 use Rattle.sig_base.specs.declared.value.Value.TheVariants as value
 use Rattle.signal_model.specs.Signals.{Cell, IsCell, is_in, standing}
 use Rattle.signal_model.specs.Changes.{after_change, with_value}
-use Rattle.effect_model.specs.Worlds.{Environment, Watcher, World, at_rest}
+use Rattle.effect_model.specs.Worlds.{Environment, Watcher, World, at_rest, changed_signal}
 use Rattle.effect_model.specs.Acts.{are_alike, frozen_by, is_notified_by_any, notified_by, waiting_if}
 use Rattle.effect_model.specs.Runs.{flush}
+use Rattle.effect_model.specs.declared.how.How.TheVariants.{Set}
 use Rattle.live_cmd.specs.declared.command.Command.{Command}
 use Rattle.live_cmd.specs.declared.command.Bare.TheVariants as bares
 use Rattle.live_cmd.specs.declared.command.Command.TheVariants as command
@@ -18,6 +19,7 @@ use Rattle.live_entries.specs.declared.entry.Entry.{Entry}
 use Rattle.live_entries.specs.declared.entry.Entry.TheVariants as entry
 use Rattle.live_entries.specs.declared.refusal.Refusal.{Refusal}
 use Rattle.live_entries.specs.declared.refusal.Refusal.TheVariants as refusal
+use Rattle.live_model.specs.Journals.{noting}
 use Rattle.live_model.specs.Labels.{Labels, name_at}
 use Rattle.live_model.specs.Machine.{Machine, acted_on_pages, refusal_of, step, reached}
 use Rattle.live_model.specs.Names.{number_of}
@@ -69,12 +71,12 @@ abbrev pub freezing : Labels → List ℕ → List Entry
 freezing labels [] = []
 freezing labels (n ∷ ns) = entry.Error (refusal.Frozen (map (name_at labels.watchers) (n ∷ ns))) ∷ []
 
--- Where no batch is open, the change of a cell stands, whoever is told of it, and nothing else is changed but that the notified watchers are
--- waiting.
+-- Where no batch is open, the change of a cell stands and is noted, whoever is told of it, and nothing else is changed but that the notified
+-- watchers are waiting.
 abbrev pub ChangeLaw : Type 0
 ChangeLaw = (env : Environment) (m : Machine) (c : Command) (i : ℕ) (v : Value) (x : Cell) → m.world.told ≡ [] → m.batch ≡ None →
     refusal_of env.slacks m c ≡ None → IsChange m c i v → standing m.world.signals i ≡ IsCell x → are_alike env.slacks x.rule x.value v ≡ false →
-    step env m (item.Do c) ≡ reached (record m { world = at_rest (changed_to i v m.world) })
+    step env m (item.Do c) ≡ reached (record m { world = at_rest (changed_to i v m.world); journal = noting (changed_signal i Set ∷ []) m.journal })
     (notices m.labels (notified_of m.world i v) ++ freezing m.labels (frozen_by (notified_of m.world i v)))
 
 -- ---- a refused flush

@@ -1,14 +1,16 @@
 // Laws of scripts, for all environments and all items.
 ghost use Rattle.live_laws.specs.Batches.{AbortLaw, BatchChangeLaw, CollectsLaw, CommitLaw, GivenBackLaw};
 ghost use Rattle.live_laws.specs.Cuts.{EntriesLaw, ItemsLaw, OutputLaw, PartsLaw, WholeLaw};
-ghost use Rattle.live_laws.specs.Events.{EndsLaw, HappensLaw, HostsLaw};
+ghost use Rattle.live_laws.specs.Events.{EndsLaw, ExplainedLaw, HappensLaw, HostsLaw, NotesLaw, WholeJournalLaw};
+ghost use Rattle.live_laws.specs.Firing.{FireLaw};
 ghost use Rattle.live_laws.specs.Refusals.{ChangeLaw, RefusedFlushLaw, RefusedLaw};
 ghost use Rattle.live_words.specs.declared.jobs.ScriptJob.TheVariants as job;
 
 use live_cmd::{items_cut, one_list};
+use why_laws::laws::{beginning_law, journal_law};
 
 /// Each item of a script does commands of the world, one after the other, and its entries tell what happens in them, in order, with
-/// answers between.
+/// answers between; once a journal was begun, that is what it notes.
 pub fn happens_law()
     ensures { HappensLaw }
 {}
@@ -24,6 +26,32 @@ pub fn ends_law()
 pub fn hosts_law()
     ensures { HostsLaw }
 {}
+
+/// The handlers that run as an event is fired are those that wait for it along the way from its node up to a child of the root, the innermost first;
+/// each settles what it reads and does its acts, which is noted once a journal was begun, and all else is as before: pages, owners, effects and
+/// what they track, and handlers.
+pub fn fire_law()
+    ensures { FireLaw }
+{}
+
+/// A journal that is begun notes the facts of all that happens as items are done then, as many as there is place for.
+pub fn notes_law()
+    ensures { NotesLaw }
+{}
+
+/// A journal that is begun has the facts of all that happens from the first item on, as many as there is place for: nothing was to be noted before.
+pub fn whole_journal_law()
+    ensures { WholeJournalLaw }
+{
+    beginning_law();
+}
+
+/// In what happens as the items of a script are done, each run of a computed is explained by the changes and runs before it.
+pub fn explained_law()
+    ensures { ExplainedLaw }
+{
+    journal_law();
+}
 
 /// An item that is refused before it does anything, for its text or for what it says, tells the one refusal and leaves all as it was.
 pub fn refused_law()

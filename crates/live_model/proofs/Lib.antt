@@ -3,4 +3,5 @@ mod NewRows
 mod ReadBodies
 mod Readable
 mod Html
+mod Noted
 pub mod Shared

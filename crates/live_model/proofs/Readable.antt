@@ -11,7 +11,7 @@ use Rattle.script_lines.specs.Lines.{NumberedLine}
 use Rattle.script_lines.specs.Pieces.{Piece}
 use Rattle.body_text.specs.declared.fault.BodyWhy.{BodyWhy}
 use Rattle.body_text.specs.declared.fault.BodyWhy.TheVariants as unbodied
-use Rattle.body_text.specs.Allowances.{effects}
+use Rattle.body_text.specs.Allowances.{effects, handlers}
 use Rattle.body_text.specs.Verdicts as bodies
 use Rattle.tpl_blocks.proofs.Shared.{read_law}
 use Rattle.tpl_syntax.specs.declared.fault.TemplateWhy.{TemplateWhy}
@@ -24,8 +24,8 @@ use Rattle.live_cmd.specs.declared.contents.Content.{Content}
 use Rattle.live_cmd.specs.declared.contents.Content.TheVariants as content
 use Rattle.live_cmd.specs.declared.line.Line.{Line}
 use Rattle.live_cmd.specs.declared.line.Line.TheVariants as line
-use Rattle.live_cmd.specs.Blocks.{block_item, body_refused, effect_content, template_content, template_refused, IsContentOf}
-use Rattle.live_cmd.specs.Grammar.{Row, row, said_line, list, computed_host, rewire_host, effect, template, close}
+use Rattle.live_cmd.specs.Blocks.{block_item, body_content, body_refused, effect_of, handler_of, template_content, template_refused, IsContentOf}
+use Rattle.live_cmd.specs.Grammar.{Row, row, said_line, list, computed_host, rewire_host, effect, on, template, close}
 use Rattle.live_cmd.specs.Items.{command_of, first_line, has_many_fields, is_alone, item_or, IsItem, long, unended, block, faulty, says}
 use Rattle.live_cmd.specs.Refusals.{fault_of, refused_for}
 use Rattle.live_entries.specs.declared.refusal.Refusal.{Refusal}
@@ -51,6 +51,7 @@ line_read list a alone e = λ few. and_from _ _ alone (ap not few)
 line_read computed_host a alone e = λ few. few_arguments a.1.1.0 e
 line_read rewire_host a alone e = λ few. few_arguments a.1.1.0 e
 line_read effect a alone e = tt
+line_read on a alone e = tt
 line_read template a alone e = tt
 line_read close a alone e = tt
 line_read _ a alone e = λ few. tt
@@ -63,6 +64,7 @@ chosen_read false r c read = read refl
 or_read : (k : ℕ) (l : Line) → IsReadLine l → IsReadItem (item_or k (command_of l))
 or_read k (line.Alone c) read = chosen_read (has_many_fields c) _ c read
 or_read k (line.Effect n o) read = tt
+or_read k (line.On t p e) read = tt
 or_read k (line.Template n) read = tt
 or_read k line.End read = tt
 
@@ -99,9 +101,14 @@ untold_template k unread.Sources = tt
 untold_template k unread.Lines = tt
 untold_template k (unread.NoMemory e) = tt
 
-effect_read : (n : List ℕ) (o : Option (List ℕ)) (ls : List NumberedLine) (x : bodies.Answer) → bodies.IsRead effects ls x → IsReadContent (effect_content n o x)
+effect_read : (n : List ℕ) (o : Option (List ℕ)) (ls : List NumberedLine) (x : bodies.Answer) → bodies.IsRead effects ls x → IsReadContent (body_content (effect_of n o) x)
 effect_read n o ls (Ok b) read = body_read effects ls b read
 effect_read n o ls (Err f) read = untold_body f.at f.why
+
+handler_read : (t : List ℕ) (k : ℕ) (e : List ℕ) (ls : List NumberedLine) (x : bodies.Answer) → bodies.IsRead handlers ls x →
+    IsReadContent (body_content (handler_of t k e) x)
+handler_read t k e ls (Ok b) read = body_read handlers ls b read
+handler_read t k e ls (Err f) read = untold_body f.at f.why
 
 template_read : (n : List ℕ) (ls : List NumberedLine) (x : templates.Answer) → templates.IsRead ls x → IsReadContent (template_content n x)
 template_read n ls (Ok t) read = read_law ls t read
@@ -110,6 +117,7 @@ template_read n ls (Err f) read = untold_template f.at f.why
 -- what lines behind a first line come to
 content_read : (r : Row) (a : Args (row r).1) (ls : List NumberedLine) (c : Content) → IsContentOf r a ls c → IsReadContent c
 content_read effect a ls c is = subst IsReadContent (sym is.2) (effect_read a.0 a.1.0 ls is.0 is.1)
+content_read on a ls c is = subst IsReadContent (sym is.2) (handler_read a.0 a.1.0 a.1.1.0 ls is.0 is.1)
 content_read template a ls c is = subst IsReadContent (sym is.2) (template_read a.0 ls is.0 is.1)
 content_read _ a ls c is = absurd is
 

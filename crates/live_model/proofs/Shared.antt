@@ -6,3 +6,5 @@ pub use Rattle.live_model.proofs.Html.{flush_law, page_law}
 pub use Rattle.live_model.proofs.Readable.{item_read}
 -- rows that are still to come are rows
 pub use Rattle.live_model.proofs.NewRows.{new_rows}
+-- what was told one after the other is noted so, and a journal that was begun is still there
+pub use Rattle.live_model.proofs.Noted.{noting_both, noting_some, unnoted}

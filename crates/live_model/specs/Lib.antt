@@ -1,9 +1,11 @@
 pub mod Labels
 pub mod Links
+pub mod Journals
 pub mod Machine
 pub mod Names
 pub mod Output
 pub mod Pages
+pub mod Handlers
 pub mod Scripts
 pub mod Rows
 pub mod Laws
@@ -12,4 +14,6 @@ pub mod EffectExamples
 pub mod Examples
 pub mod BatchExamples
 pub mod PageExamples
+pub mod EventExamples
 pub mod RowExamples
+pub mod WhyExamples

@@ -66,6 +66,10 @@ links_of names own (body ss targets signals inner rewirings others) =
     links (map (number_of names) signals) (map (target_named names own) targets) (links_of names own inner)
     (map (λ (r : Rewiring). map (number_of names) r.names) rewirings) (links_of names own others)
 
+-- the body of a handler, which belongs to no effect: no name is that of its own
+abbrev pub linked_alone : Names → Bodies → Body
+linked_alone names b = body_along 0 b (links_of names [] b) 0 []
+
 -- the body of the effect of a number that has its own name
 abbrev pub linked_body : Names → List ℕ → ℕ → Bodies → Body
 linked_body names own e b = body_along e b (links_of names own b) 0 []

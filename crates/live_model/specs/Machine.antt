@@ -1,5 +1,5 @@
 -- The machine, and what each command does to it.
-use Rattle.std.specs.Prelude.{ℕ, ◌==◌, nat_lt, Bool, true, false, List, [], ◌∷◌, ◌++◌}
+use Rattle.std.specs.Prelude.{ℕ, ◌==◌, ◌&&◌, ◌||◌, nat_lt, is_some, Bool, true, false, List, [], ◌∷◌, ◌++◌}
 use Rattle.std.specs.Prelude.{Option, Some, None, length, map, slice_get, unwrap_or, if◌then◌else◌}
 use Rattle.std.specs.List.{filter}
 use Rattle.std.specs.Option.{option_or, option_map, option_map_or}
@@ -13,14 +13,15 @@ use Rattle.tpl_model.specs.Updates.{Updated, updated}
 use Rattle.signal_model.specs.Signals.{is_in, standing}
 use Rattle.signal_model.specs.Changes.{live_count}
 use Rattle.signal_model.specs.Values.{value_of}
-use Rattle.signal_model.specs.Memos.{sources_of, source_names}
+use Rattle.signal_model.specs.Memos.{memo_of, sources_of, source_names}
 use Rattle.signal_model.specs.Settling.{Run}
 use Rattle.signal_model.specs.Marks as marks
 use Rattle.signal_model.specs.Marks.{Mark, mark_of}
-use Rattle.signal_model.specs.Sound.{names_of}
+use Rattle.signal_model.specs.Sound.{kept_outcome, names_of}
+use Rattle.effect_model.specs.Bodies.{Act, to_set, to_log, Body, BodyResult, to_do, failed_by, body_evaluation}
 use Rattle.effect_model.specs.Owners.{Thing, the_effect}
 use Rattle.effect_model.specs.Worlds.{Environment, HostState, unused, Refused, thing_gone, host_taken, still_due, Event, ran, notified, frozen, logged}
-use Rattle.effect_model.specs.Worlds.{body_ran, failed, cleaned, gone, dropped_host, World, settle, at_rest}
+use Rattle.effect_model.specs.Worlds.{body_ran, failed, cleaned, gone, dropped_host, World, settle, at_rest, tell}
 use Rattle.effect_model.specs.Worlds as worlds
 use Rattle.effect_model.specs.Acts.{set_cell, host_of, with_use, rewire_signal, forget, dispose_thing}
 use Rattle.effect_model.specs.Commands.{new_world, with_new_cell, with_new_computed, with_new_owner, with_new_effect, with_new_page, with_new_watcher}
@@ -29,7 +30,9 @@ use Rattle.effect_model.specs.Batches.{Batch, joined_by, set_quietly, commit, ab
 use Rattle.effect_model.specs.Runs.{flush}
 use Rattle.effect_model.specs.Watchers.{signals_at, watches, pending_of}
 use Rattle.effect_model.specs.declared.limits.TheConstants.{MOST_WATCHERS, MOST_OWNERS, MOST_EFFECTS}
+use Rattle.why_model.specs.Records.{Journal, no_facts}
 use Rattle.sig_untrack.specs.Stated.{Bodies}
+use Rattle.event_model.specs.declared.limits.TheConstants.{MOST_HANDLERS}
 use Rattle.live_cmd.specs.declared.command.Bare.{Bare}
 use Rattle.live_cmd.specs.declared.command.Bare.TheVariants as bares
 use Rattle.live_cmd.specs.declared.command.SourceText.{SourceText}
@@ -53,25 +56,30 @@ use Rattle.live_entries.specs.declared.refusal.Refusal.TheVariants as refusal
 use Rattle.live_model.specs.declared.names.Kind.{Kind}
 use Rattle.live_model.specs.declared.names.Kind.TheVariants as kind
 use Rattle.live_model.specs.Labels.{Labels, no_labels, name_at, named as a_label, label_at, label_of, with_label, relabelled, labels_after, named_count}
-use Rattle.live_model.specs.Links.{recipe_of, owner_of, linked_body, linked_template}
+use Rattle.live_model.specs.Handlers.{Handler, Handling, fired_of, handlings_of, has_node}
+use Rattle.live_model.specs.Links.{recipe_of, owner_of, linked_alone, linked_body, linked_template}
 use Rattle.live_model.specs.Names.{Names, meaning_of, number_of, thing_named, first_refusal, first_within}
-use Rattle.live_model.specs.Pages.{Template, template_in, Page, page_html, scratch_html, asked_of}
+use Rattle.live_model.specs.Journals.{noting, chain_in, is_full, why_entries}
+use Rattle.live_model.specs.Pages.{Template, template_in, tag_in, Page, page_html, scratch_html, asked_of}
 use Rattle.live_model.specs.Rows.{edited, edit_refusal, no_rows, rows_at}
 use Rattle.live_model.specs.Uses.{uses_of, uses_of_body, hosts_of_body}
 
 -- What the names stand for, in order of making; what things are called; the signals, what is kept of them, the watchers, and the owners,
--- effects and pages with what stands under what; the batch, where one is open; the templates; the pages that live, in order of mounting.
+-- effects and pages with what stands under what; the batch, where one is open; the journal, once it was begun; the templates; the
+-- handlers of events, in order of making; the pages that live, in order of mounting.
 pub record Machine : Type 0 where
   pub names : Names
   pub labels : Labels
   pub world : World
   pub batch : Option Batch
+  pub journal : Option Journal
   pub templates : List Template
+  pub handlers : List Handler
   pub pages : List Page
 
 -- nothing was made yet, and there are so many host formulas
 abbrev pub empty : ℕ → Machine
-empty hosts = record { names = []; labels = no_labels; world = new_world hosts; batch = None; templates = []; pages = [] }
+empty hosts = record { names = []; labels = no_labels; world = new_world hosts; batch = None; journal = None; templates = []; handlers = []; pages = [] }
 
 -- a machine and what was told on the way to it
 pub record Told : Type 0 where
@@ -123,9 +131,10 @@ abbrev pub entries_of : Labels → List Event → List Entry
 entries_of labels [] = []
 entries_of labels (e ∷ es) = event_entries labels e ++ entries_of (relabelled e labels) es
 
--- the world has come to this, and what happened on the way is told
+-- the world has come to this, and what happened on the way is told, and noted
 abbrev pub acted : Machine → World → Told
-acted m w = reached (record m { labels = labels_after w.told m.labels; world = at_rest w }) (entries_of m.labels w.told)
+acted m w =
+    reached (record m { labels = labels_after w.told m.labels; world = at_rest w; journal = noting w.told m.journal }) (entries_of m.labels w.told)
 
 -- names are settled, and their runs are told
 abbrev pub settling : Environment → Machine → List ℕ → Told
@@ -246,6 +255,46 @@ abbrev pub scratching : Environment → Machine → List ℕ → Option Page →
 scratching env m n None = reached m (entry.Scratch n [] ∷ [])
 scratching env m n (Some p) = from_scratch env m n p.template
 
+-- ---- events
+
+-- an act of a handler's body: a cell is set, or a value is logged; nothing else stands in it
+abbrev pub acting_once : Environment → Machine → Act → Told
+acting_once env m (to_set n v) = acted m (set_cell env n v m.world)
+acting_once env m (to_log v) = acted m (tell (worlds.logged v) m.world)
+acting_once env m a = reached m []
+
+-- its acts are done, one after the other
+abbrev pub acting : Environment → Machine → List Act → Told
+acting env m [] = reached m []
+acting env m (a ∷ as') =
+    let t = acting_once env m a in
+    let rest = acting env t.machine as' in reached rest.machine (t.entries ++ rest.entries)
+
+-- where it failed, that is told in their place
+abbrev pub ending : Environment → Machine → List ℕ → ℕ → BodyResult → Told
+ending env m page node (failed_by f) = reached m (entry.FailAt page node f ∷ [])
+ending env m page node (to_do as') = acting env m as'
+
+-- a handler runs at a node: what its body reads is settled, with the runs told, then it is told itself, and then it is done
+abbrev pub running : Environment → Machine → List ℕ → Handling → Told
+running env m page x =
+    let e = body_evaluation env.hosts m.world.signals x.body in
+    let s = settling env m (names_of e.reads) in
+    let t = ending env s.machine page x.node e.result in
+    reached t.machine (s.entries ++ entry.Fired page x.node ∷ t.entries)
+
+-- handlers run, one after the other
+abbrev pub firing : Environment → Machine → List ℕ → List Handling → Told
+firing env m page [] = reached m []
+firing env m page (x ∷ xs) =
+    let t = running env m page x in
+    let rest = firing env t.machine page xs in reached rest.machine (t.entries ++ rest.entries)
+
+-- a handler is made, the last of all
+abbrev pub with_handler : Machine → ℕ → ℕ → List ℕ → Body → Machine
+with_handler m t line event b =
+    record m { handlers = m.handlers ++ record { awaited = record { template = t; line = line; event = event }; body = b } ∷ [] }
+
 -- ---- what commands do
 
 -- a mark, as it is told
@@ -274,6 +323,7 @@ named env m verb.Get n i =
 named env m verb.State n i = reached m (entry.State n (seen_of (mark_of m.world.signals m.world.memos i)) ∷ [])
 named env m verb.Sources n i = reached m (entry.Sources n (source_labels m i) ∷ [])
 named env m verb.Pending n i = reached m (entry.Pending n (pending_labels m i) ∷ [])
+named env m verb.Why n i = reached m (why_entries m.labels.signals n (chain_in m.journal i))
 named env m verb.Show n i = reached m (entry.Page n (shown_of m i) ∷ [])
 named env m verb.Scratch n i = scratching env m n (page_at m.pages i)
 named env m verb.Dispose n i = disposing env m (thing_named (meaning_of m.names n))
@@ -304,6 +354,7 @@ done_alone env m bares.Flush = flushing env m
 done_alone env m bares.Begin = reached (record m { batch = Some [] }) []
 done_alone env m bares.Commit = committing env m m.batch
 done_alone env m bares.Abort = aborting m m.batch
+done_alone env m bares.Record = reached (record m { journal = Some no_facts }) []
 
 -- a cell is set, and who is notified is told; while a batch is open the cell joins it, and nobody is notified
 abbrev pub setting_by : Environment → Machine → Option Batch → ℕ → Value → Told
@@ -337,6 +388,9 @@ done env m (command.Watch n signals) = acted m (changed_watcher (number_of m.nam
 done env m (command.Unwatch n s) = acted m (changed_watcher (number_of m.names n) (forget (number_of m.names s)) m.world)
 done env m (command.Named v n) = named env m v n (number_of m.names n)
 done env m (command.Effect n b inside) = reached (with_effect m n b (owner_of m.names inside)) []
+done env m (command.On t line event b) = reached (with_handler m (number_of m.names t) line event (linked_alone m.names b)) []
+done env m (command.Fire p node event) =
+    firing env m p (handlings_of m.handlers (fired_of m.handlers (page_at m.pages (number_of m.names p)) node event))
 done env m (command.Template n t) =
     reached (with_name (record m { templates = m.templates ++ linked_template m.names t ∷ [] }) n kind.Template (length m.templates)) []
 done env m (command.Mount n t inside) = mounted env m n (number_of m.names t) (owner_of m.names inside)
@@ -355,6 +409,7 @@ abbrev pub is_done_in_batch : Command → Bool
 is_done_in_batch (command.Set n v) = true
 is_done_in_batch (command.Edit n e) = true
 is_done_in_batch (command.Named verb.Dispose n) = false
+is_done_in_batch (command.Named verb.Why n) = false
 is_done_in_batch (command.Named v n) = true
 is_done_in_batch c = is_ending c
 
@@ -401,9 +456,24 @@ place_refusal slacks w (command.Rewire n s) = host_refusal w s
 place_refusal slacks w (command.Effect n b inside) = outside_refusal (length w.host_states) (hosts_of_body b)
 place_refusal slacks w c = None
 
--- an edit that the rows of its list don't allow
+-- whether a signal was made, or a journal was begun
+abbrev pub is_late : Machine → Bool
+is_late m = nat_lt 0 m.world.made.signals || is_some m.journal
+
+-- whether it can be told why a computed ran: a journal was begun, and the computed has run
+abbrev pub can_tell_why : Machine → ℕ → Bool
+can_tell_why m i = is_some m.journal && is_some (kept_outcome (memo_of m.world.memos i))
+
+-- an edit that the rows of its list don't allow; a node that isn't on its page, and a line that makes no
+-- element; a journal that would begin late, and a computed of which it can't be told why it ran
 abbrev pub row_refusal : Machine → Command → Option Refusal
 row_refusal m (command.Edit n e) = edit_refusal e (rows_at m.world.signals (number_of m.names n))
+row_refusal m (command.Fire p node event) =
+    if has_node (page_at m.pages (number_of m.names p)) node then None else Some (refusal.NoNode node)
+row_refusal m (command.On t line event b) =
+    if tag_in (template_at m (number_of m.names t)) line then None else Some (refusal.NoLine line)
+row_refusal m (command.Bare bares.Record) = if is_late m then Some refusal.Late else None
+row_refusal m (command.Named verb.Why n) = if can_tell_why m (number_of m.names n) then None else Some (refusal.NoRun n)
 row_refusal m c = None
 
 -- one more than the most
@@ -418,8 +488,10 @@ over_limit m (command.Computed n s inside) = one_too_many MOST_NODES (live_count
 over_limit m (command.Owner n inside) = one_too_many MOST_OWNERS (length m.world.owners) limit.Owners
 over_limit m (command.Watcher n tries) = one_too_many MOST_WATCHERS (length m.world.watchers) limit.Watchers
 over_limit m (command.Effect n b inside) = one_too_many MOST_EFFECTS (named_count m.labels m.world.effects) limit.Effects
+over_limit m (command.On t line event b) = one_too_many MOST_HANDLERS (length m.handlers) limit.Handlers
 over_limit m (command.Template n t) = one_too_many MOST_TEMPLATES (length m.templates) limit.Templates
 over_limit m (command.Mount n t inside) = one_too_many MOST_PAGES (length m.world.pages) limit.Pages
+over_limit m (command.Named verb.Why n) = if is_full m.journal then Some (refusal.Limit limit.Facts) else None
 over_limit m c = None
 
 -- a signal that a watcher doesn't watch
@@ -428,8 +500,8 @@ unwatch_refusal m (command.Unwatch n s) =
     if watches m.world.watchers (number_of m.names n) (number_of m.names s) then None else Some (refusal.NotWatched s)
 unwatch_refusal m c = None
 
--- what stands behind the names: the place of a host formula or of a rule, then what the rows of a list don't allow, then what there would
--- be too much of, and last a signal that isn't watched
+-- what stands behind the names: the place of a host formula or of a rule, then what the rows of a list or the journal don't allow or isn't
+-- there on a page or among the lines of a template, then what there would be too much of, and last a signal that isn't watched
 abbrev pub later_refusal : List ℕ → Machine → Command → Option Refusal
 later_refusal slacks m c =
     option_or (place_refusal slacks m.world c) (option_or (row_refusal m c) (option_or (over_limit m c) (unwatch_refusal m c)))

@@ -21,13 +21,14 @@ abbrev pub IsReadSource : SourceText → Type 0
 IsReadSource (source.Formula f) = Unit {0}
 IsReadSource (source.Host place arguments) = length arguments ≤ MOST_SOURCES
 
--- A list that a command makes has the fields of one, a host formula has few arguments, the body of an effect is one that a script can
--- have, and the lines of a template are those of one that was read.
+-- A list that a command makes has the fields of one, a host formula has few arguments, the body of an effect or of a handler is one that a script
+-- can have, and the lines of a template are those of one that was read.
 abbrev pub IsReadable : Command → Type 0
 IsReadable (command.List n fields inside) = is_list fields ≡ true
 IsReadable (command.Computed n s inside) = IsReadSource s
 IsReadable (command.Rewire n s) = IsReadSource s
 IsReadable (command.Effect n b inside) = is_fit b ≡ true
+IsReadable (command.On t line event b) = is_fit b ≡ true
 IsReadable (command.Template n t) = IsTemplate (lines_of t)
 IsReadable _ = Unit {0}
 

@@ -200,6 +200,7 @@ abbrev pub need_of : Verb → Need
 need_of verb.Get = need.Signal
 need_of verb.State = need.Of kind.Computed
 need_of verb.Sources = need.Of kind.Computed
+need_of verb.Why = need.Of kind.Computed
 need_of verb.Pending = need.Of kind.Watcher
 need_of verb.Show = need.Of kind.Page
 need_of verb.Scratch = need.Of kind.Page
@@ -219,6 +220,8 @@ uses_of (command.Watch n signals) = (n, need.Of kind.Watcher) ∷ uses_of_signal
 uses_of (command.Unwatch n s) = (n, need.Of kind.Watcher) ∷ (s, need.Signal) ∷ []
 uses_of (command.Named v n) = (n, need_of v) ∷ []
 uses_of (command.Effect n b inside) = (n, need.New) ∷ uses_of_inside inside
+uses_of (command.On t line event b) = (t, need.Of kind.Template) ∷ uses_of_body b
+uses_of (command.Fire p node event) = (p, need.Of kind.Page) ∷ []
 uses_of (command.Template n t) = (n, need.New) ∷ uses_of_signals t.names
 uses_of (command.Mount n t inside) = (n, need.New) ∷ (t, need.Of kind.Template) ∷ uses_of_inside inside
 uses_of (command.Bare b) = []

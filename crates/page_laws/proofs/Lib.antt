@@ -5,5 +5,6 @@ mod Rows
 mod Operations
 mod Flushes
 mod Names
+mod Fired
 mod Steps
 mod LivePages

@@ -31,6 +31,8 @@ use Rattle.tpl_model.specs.Sources.{on_signals}
 use Rattle.tpl_model.specs.Updates.{Updated}
 use Rattle.live_cmd.specs.declared.command.Bare.{Bare}
 use Rattle.live_cmd.specs.declared.command.Bare.TheVariants as bares
+use Rattle.why_model.specs.declared.causes.Link.{Link}
+use Rattle.why_model.specs.Records.{Journal, no_facts}
 use Rattle.live_cmd.specs.declared.command.Command.{Command}
 use Rattle.live_cmd.specs.declared.command.Command.TheVariants as command
 use Rattle.live_cmd.specs.declared.command.Item.{Item}
@@ -46,6 +48,8 @@ use Rattle.live_model.specs.declared.names.Kind.{Kind}
 use Rattle.live_model.specs.declared.names.Kind.TheVariants as kind
 use Rattle.live_model.specs.declared.names.Meaning.{Meaning}
 use Rattle.live_model.specs.declared.names.Need.TheVariants as need
+use Rattle.live_model.specs.Handlers.{Handling, fired_of, handlings_of}
+use Rattle.live_model.specs.Journals.{chain_in, link_entries, name_next, noting, why_entries}
 use Rattle.live_model.specs.Labels.{Labels, labels_after, named as a_label, with_label}
 use Rattle.live_model.specs.Links.{linked_body, linked_template, owner_of, recipe_of}
 use Rattle.live_model.specs.Machine as machine
@@ -60,6 +64,7 @@ use Rattle.live_model.specs.Rows.{edited, no_rows, rows_at}
 use Rattle.live_model.specs.Uses.{uses_of, uses_of_inside}
 use Rattle.live_model.proofs.Shared.{new_rows}
 use Rattle.page_laws.specs.LivePages.{Lead, ops_of, tree_named}
+use Rattle.page_laws.proofs.Fired.{Stays, fired_stays}
 use Rattle.page_laws.proofs.Flushes.{all_carried, apart_carried, batch_stays, names_stay, next_ops, next_page, ops_are, pages_are, templates_stay, told_among, told_each, world_stays}
 use Rattle.page_laws.proofs.Operations.{AreApart, AreQuiet, Differ, OneReading, all_by_two, all_filtered, apart_behind, apart_filtered, events_quiet, named_trees}
 use Rattle.page_laws.proofs.Operations.{ops_both, page_led, page_told, quiet_both, same_name, sized_ops, still_led, unnamed_tree}
@@ -126,10 +131,25 @@ ended_step m f labels w es s good q = record {
       (all_filtered (λ (p : Page). tree_named m.pages p.name ≡ tree_of p.content) f m.pages (named_trees m.pages s.apart));
 }
 
+-- what is noted matters to no page
+noted_step : (m : Machine) (j : Option Journal) (t : Told) → Steps m t → Steps m (reached (record (t.machine) { journal = j }) t.entries)
+noted_step m j t s = record {
+  sound = record {
+    templates = s.sound.templates;
+    pages = s.sound.pages;
+    named = s.sound.named;
+    apart = s.sound.apart;
+    world = s.sound.world;
+    batch = s.sound.batch;
+  };
+  led = s.led;
+}
+
 -- something is done to the world
 act_step : (m : Machine) (w : World) → IsSound m → IsGoodWorld w → Steps m (acted m w)
 act_step m w s good =
-    world_step m m.names (labels_after w.told m.labels) (at_rest w) (entries_of m.labels w.told) s s.named (rest_good w good) (events_quiet m.labels w.told)
+    noted_step m (noting w.told m.journal) (reached (record m { labels = labels_after w.told m.labels; world = at_rest w }) (entries_of m.labels w.told))
+    (world_step m m.names (labels_after w.told m.labels) (at_rest w) (entries_of m.labels w.told) s s.named (rest_good w good) (events_quiet m.labels w.told))
 
 -- the same, and a batch is open that was another one, or none is
 batch_step : (m : Machine) (b : Option Batch) (w : World) → IsSound m → IsGoodBatch b → IsGoodWorld w → Steps m (acted (record m { batch = b }) w)
@@ -142,21 +162,28 @@ batch_step m b w s held good =
 answer_step : (m : Machine) (w : World) (answers : List Entry) → IsSound m → IsGoodWorld w → AreQuiet answers →
     Steps m (reached (acted m w).machine ((acted m w).entries ++ answers))
 answer_step m w answers s good q =
-    world_step m m.names (labels_after w.told m.labels) (at_rest w) (entries_of m.labels w.told ++ answers) s s.named (rest_good w good)
-    (quiet_both (entries_of m.labels w.told) answers (events_quiet m.labels w.told) q)
+    noted_step m (noting w.told m.journal) (reached (record m { labels = labels_after w.told m.labels; world = at_rest w }) (entries_of m.labels w.told ++ answers))
+    (world_step m m.names (labels_after w.told m.labels) (at_rest w) (entries_of m.labels w.told ++ answers) s s.named (rest_good w good)
+    (quiet_both (entries_of m.labels w.told) answers (events_quiet m.labels w.told) q))
 
 -- pages may end by what is done
 page_step : (m : Machine) (w : World) (answers : List Entry) → IsSound m → IsGoodWorld w → AreQuiet answers →
     Steps m (reached (acted_on_pages m w).machine ((acted_on_pages m w).entries ++ answers))
 page_step m w answers s good q =
-    ended_step m (λ (p : Page). is_in p.number (at_rest w).pages) (labels_after w.told m.labels) (at_rest w) (entries_of m.labels w.told ++ answers) s
-    (rest_good w good) (quiet_both (entries_of m.labels w.told) answers (events_quiet m.labels w.told) q)
+    noted_step m (noting w.told m.journal)
+    (reached (record m { labels = labels_after w.told m.labels; world = at_rest w; pages = filter (λ (p : Page). is_in p.number (at_rest w).pages) m.pages })
+    (entries_of m.labels w.told ++ answers))
+    (ended_step m (λ (p : Page). is_in p.number (at_rest w).pages) (labels_after w.told m.labels) (at_rest w) (entries_of m.labels w.told ++ answers) s
+    (rest_good w good) (quiet_both (entries_of m.labels w.told) answers (events_quiet m.labels w.told) q))
 
 -- the same without answers
 some_end_step : (m : Machine) (w : World) → IsSound m → IsGoodWorld w → Steps m (acted_on_pages m w)
 some_end_step m w s good =
-    ended_step m (λ (p : Page). is_in p.number (at_rest w).pages) (labels_after w.told m.labels) (at_rest w) (entries_of m.labels w.told) s
-    (rest_good w good) (events_quiet m.labels w.told)
+    noted_step m (noting w.told m.journal)
+    (reached (record m { labels = labels_after w.told m.labels; world = at_rest w; pages = filter (λ (p : Page). is_in p.number (at_rest w).pages) m.pages })
+    (entries_of m.labels w.told))
+    (ended_step m (λ (p : Page). is_in p.number (at_rest w).pages) (labels_after w.told m.labels) (at_rest w) (entries_of m.labels w.told) s
+    (rest_good w good) (events_quiet m.labels w.told))
 
 -- a thing is made under a name
 make_step : (m : Machine) (n : List ℕ) (x : Meaning) (labels : Labels) (w : World) → IsSound m → IsGoodWorld w →
@@ -289,10 +316,20 @@ dispose_step : (env : Environment) (m : Machine) (t : Option Thing) → IsSound 
 dispose_step env m None s = same_step m [] s (λ k. refl)
 dispose_step env m (Some t) s = some_end_step m (dispose_thing env t m.world) s (thing_disposed env t m.world s.world)
 
+-- what is told of a chain is of no page
+links_quiet : (names : List (List ℕ)) (n : List ℕ) (ls : List Link) → AreQuiet (link_entries names n ls)
+links_quiet names n [] k = refl
+links_quiet names n (l ∷ ls) k = links_quiet names (name_next names n l.cause) ls k
+
+why_quiet : (names : List (List ℕ)) (n : List ℕ) (o : Option (List Link)) → AreQuiet (why_entries names n o)
+why_quiet names n None k = refl
+why_quiet names n (Some ls) k = links_quiet names n ls k
+
 verb_step : (env : Environment) (m : Machine) (v : Verb) (n : List ℕ) (i : ℕ) → IsSound m → Steps m (machine.named env m v n i)
 verb_step env m verb.Get n i s = answer_step m (settle env (i ∷ []) m.world) (entry.Outcome n (value_of env.hosts m.world.signals i []) ∷ []) s s.world (λ k. refl)
 verb_step env m verb.Scratch n i s = scratch_step env m n (page_at m.pages i) s
 verb_step env m verb.Dispose n i s = dispose_step env m (thing_named (meaning_of m.names n)) s
+verb_step env m verb.Why n i s = same_step m (machine.named env m verb.Why n i).entries s (why_quiet m.labels.signals n (chain_in m.journal i))
 verb_step env m v n i s = same_step m (machine.named env m v n i).entries s (λ k. refl)
 
 commit_step : (env : Environment) (m : Machine) (b : Option Batch) → IsSound m → Steps m (committing env m b)
@@ -308,6 +345,7 @@ alone_step one env m bares.Begin lends s = record {
   sound = record { templates = s.templates; pages = s.pages; named = s.named; apart = s.apart; world = s.world; batch = tt };
   led = λ z. quiet_led m m.pages [] (λ k. refl) (named_trees m.pages s.apart);
 }
+alone_step one env m bares.Record lends s = noted_step m (Some no_facts) (reached m []) (same_step m [] s (λ k. refl))
 alone_step one env m bares.Commit lends s = commit_step env m m.batch s
 alone_step one env m bares.Abort lends s = abort_step m m.batch s.batch s
 alone_step one env m bares.Flush lends s =
@@ -324,6 +362,18 @@ set_step env m (Some b) i v s held good =
 signal_step : (m : Machine) (n : List ℕ) (k : Kind) (w : World) → IsSound m → IsGoodWorld w → Steps m (reached (with_signal m n k w) [])
 signal_step m n k w s good =
     make_step m n (record { kind = k; number = m.world.made.signals }) (record (m.labels) { signals = m.labels.signals ++ n ∷ [] }) w s good
+
+-- handlers of an event run
+fire_step : (env : Environment) (m : Machine) (page : List ℕ) (xs : List Handling) → IsSound m → Steps m (machine.firing env m page xs)
+fire_step env m page xs s =
+    let t : Told = machine.firing env m page xs in
+    let k : Stays m t = fired_stays env m page xs s.world in
+    record {
+      sound = subst IsSound (sym k.same)
+          (record { templates = s.templates; pages = s.pages; named = s.named; apart = s.apart; world = k.good; batch = s.batch });
+      led = λ z. subst (λ (n : Machine). AllByRecursion (IsLed m t.entries) n.pages) (sym k.same)
+          (quiet_led m m.pages t.entries k.quiet (named_trees m.pages s.apart));
+    }
 
 -- what is refused behind whether a batch is open
 behind_batch : (slacks : List ℕ) (m : Machine) (c : Command) → refusal_of slacks m c ≡ None → option_or (name_refusal m c) (later_refusal slacks m c) ≡ None
@@ -373,6 +423,12 @@ done_step one env m (command.Effect n b inside) lends s read e =
     let i : ℕ = m.world.made.effects in
     make_step m n (record { kind = kind.Effect; number = i }) (record (m.labels) { effects = with_label i (Some (a_label n)) m.labels.effects })
     (with_new_effect (linked_body m.names n i b) owner m.world) s (s.world.0, made_good owner (the_effect i) m.world.owned s.world.1)
+done_step one env m (command.On t line event b) lends s read e = record {
+  sound = record { templates = s.templates; pages = s.pages; named = s.named; apart = s.apart; world = s.world; batch = s.batch };
+  led = λ z. quiet_led m m.pages [] (λ k. refl) (named_trees m.pages s.apart);
+}
+done_step one env m (command.Fire p node event) lends s read e =
+    fire_step env m p (handlings_of m.handlers (fired_of m.handlers (page_at m.pages (number_of m.names p)) node event)) s
 done_step one env m (command.Template n t) lends s read e =
     let x : Template = linked_template m.names t in
     let meaning : Meaning = record { kind = kind.Template; number = length m.templates } in

@@ -193,7 +193,7 @@ thing_disposed env t w h = go (lives t w)
 -- ---- what bodies want done
 
 -- what is set is a good value
-abbrev IsGoodAct : Act → Type 0
+abbrev pub IsGoodAct : Act → Type 0
 IsGoodAct (to_set n v) = IsGood v
 IsGoodAct (to_note c) = IsGoodCleanup c
 IsGoodAct _ = Unit {0}
@@ -257,7 +257,7 @@ statements_good (effect inner names rest) ts us =
     first_good (to_make (record { statements = inner; names = names })) (body_step rest ts us) tt (statements_good rest ts us)
 statements_good (rewire n r rest) ts us = first_good (to_rewire n r) (body_step rest ts us) tt (statements_good rest ts us)
 
-abbrev IsGoodResult : BodyResult → Type 0
+abbrev pub IsGoodResult : BodyResult → Type 0
 IsGoodResult (to_do as') = AllByRecursion IsGoodAct as'
 IsGoodResult (failed_by e) = Unit {0}
 
@@ -284,7 +284,8 @@ asked_good (suc turns) b source ts us =
     (statements_good b.statements ts us)
     (λ s tracked v. known_good tracked s v (body_asked_within turns b source) ts us (asked_good turns b source))
 
-body_good : (hosts : Hosts) (w : Signals) (b : Body) → IsGoodResult (body_evaluation hosts w b).result
+-- what a body comes to
+pub body_good : (hosts : Hosts) (w : Signals) (b : Body) → IsGoodResult (body_evaluation hosts w b).result
 body_good hosts w b =
     asked_good (suc (unknown_slots (length b.names) [] + unknown_slots (length b.names) [])) b (λ m. value_of hosts w m []) [] []
 
