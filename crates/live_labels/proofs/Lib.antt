@@ -1,3 +1,4 @@
 mod Survivors
 mod Told
+mod Noted
 pub mod Shared

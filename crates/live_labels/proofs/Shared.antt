@@ -2,3 +2,5 @@
 
 -- entries and labels by events are those by what the plain world tells
 pub use Rattle.live_labels.proofs.Told.{all_rename, all_told, renamed_by, told_by}
+-- and so is what is noted
+pub use Rattle.live_labels.proofs.Noted.{all_noted, noted_by}

@@ -3,8 +3,11 @@
 
 mod labels;
 mod names;
+mod notes;
+mod reasons;
 mod report;
 
 pub use labels::Labels;
 pub use names::{label_effect, named_count, names_of_signals};
-pub use report::{tell_all, tell_runs};
+pub use reasons::tell_why;
+pub use report::{append, tell_all, tell_runs};

@@ -1,11 +1,15 @@
 // What is told of events, each by the labels of its moment.
-ghost use Rattle.std.specs.Prelude.{◌≡◌, ◌++◌, List, IfOk, OnOk, map, option_to_list};
+ghost use Rattle.std.specs.Prelude.{◌≡◌, ◌++◌, List, IfOk, OnOk, map, option_map, option_to_list};
 ghost use Rattle.effect_model.specs.Worlds as plain;
 ghost use Rattle.effect_tables.specs.Bodies.{thing_of};
 ghost use Rattle.sig_computed.specs.Notes.{note_of};
 ghost use Rattle.sig_effect.specs.Events.{AreTold};
 ghost use Rattle.live_entries.specs.declared.entry.Entry.TheVariants as entry;
 ghost use Rattle.live_entries.specs.declared.refusal.Refusal.TheVariants as refusal;
+ghost use Rattle.why_model.specs.Facts.{has_run};
+ghost use Rattle.why_model.specs.Records.{with_facts};
+ghost use Rattle.live_why.specs.Views as noted;
+ghost use Rattle.live_model.specs.Journals.{noting};
 ghost use Rattle.live_model.specs.Labels.{label_at, label_of, labels_after, name_at, relabelled};
 ghost use Rattle.live_model.specs.Machine.{entries_of};
 ghost use Rattle.live_labels.specs.Entries.{entries_told, note_entry, renamed};
@@ -15,12 +19,24 @@ use crate::labels::Labels;
 use crate::names::{
     label_at, label_of, name_at, name_child, names_of_signals, names_of_watchers, unname_child,
 };
+use crate::notes::{note_all, note_runs};
 use effect_tables::Thing;
 use live_entries::{Entry, Refusal};
+use live_why::Recorder;
 use sig_base::{EffectId, Fault, Name, NoMemory, NodeId, WatcherId};
 use sig_computed::RunNote;
 use sig_effect::Event;
 use std::alloc::Global;
+
+/// Puts entries behind others.
+pub fn append(told: &mut Vec<Entry>, more: Vec<Entry>) -> Result<(), NoMemory>
+    ensures { OnOk result (told.new.items ≡ told.old.items ++ more.items) }
+{
+    for entry in more {
+        told.push(entry)?;
+    }
+    Ok(())
+}
 
 // What is told of a run.
 fn run_entry(alloc: Global, names: &[Name], note: &RunNote) -> Result<Entry, NoMemory>
@@ -32,14 +48,33 @@ fn run_entry(alloc: Global, names: &[Name], note: &RunNote) -> Result<Entry, NoM
     Ok(Entry::Run(name, reads, outcome))
 }
 
-/// Tells of runs.
-pub fn tell_runs(told: &mut Vec<Entry>, names: &[Name], notes: &[RunNote]) -> Result<(), NoMemory>
+// Puts what is told of runs behind what was told.
+fn put_runs(told: &mut Vec<Entry>, names: &[Name], notes: &[RunNote]) -> Result<(), NoMemory>
     ensures { OnOk result (told.new.items ≡ told.old.items ++ map (note_entry names.now) (map note_of notes.now)) }
 {
     for note in notes {
         let entry = run_entry(*told.allocator(), names, note)?;
         told.push(entry)?;
     }
+    Ok(())
+}
+
+/// Tells of runs, and notes them.
+///
+/// # Errors
+///
+/// `NoMemory` where memory ran out.
+pub fn tell_runs(
+    told: &mut Vec<Entry>,
+    names: &[Name],
+    journal: &mut Option<Recorder>,
+    notes: &[RunNote],
+) -> Result<(), NoMemory>
+    ensures told { OnOk result (told.new.items ≡ told.old.items ++ map (note_entry names.now) (map note_of notes.now)) }
+    ensures noted { OnOk result (journal.new ≡ option_map (with_facts (map has_run (map noted.note_of notes.now))) journal.old) }
+{
+    note_runs(journal, notes)?;
+    put_runs(told, names, notes)?;
     Ok(())
 }
 
@@ -216,12 +251,8 @@ fn tell_one(told: &mut Vec<Entry>, labels: &mut Labels, event: &Event) -> Result
     Ok(())
 }
 
-/// Tells of events, one by one, each by the labels of its moment.
-pub fn tell_all(
-    alloc: Global,
-    labels: &mut Labels,
-    events: &[Event],
-) -> Result<Vec<Entry>, NoMemory>
+// Tells of events, one by one, each by the labels of its moment.
+fn tell_each(alloc: Global, labels: &mut Labels, events: &[Event]) -> Result<Vec<Entry>, NoMemory>
     ensures entries { (ts : List plain.Event) → AreTold events.now ts → IfOk result (λ es. es.items ≡ entries_of (labels_of labels.old) ts) }
     ensures labels { (ts : List plain.Event) → AreTold events.now ts → OnOk result (labels_of labels.new ≡ labels_after ts (labels_of labels.old)) }
     ensures names { OnOk result (KeepsNames labels.old labels.new) }
@@ -230,5 +261,26 @@ pub fn tell_all(
     for event in events {
         tell_one(&mut told, labels, event)?;
     }
+    Ok(told)
+}
+
+/// Tells of events, one by one, each by the labels of its moment, and notes them, if a journal was begun.
+///
+/// # Errors
+///
+/// `NoMemory` where memory ran out.
+pub fn tell_all(
+    alloc: Global,
+    labels: &mut Labels,
+    journal: &mut Option<Recorder>,
+    events: &[Event],
+) -> Result<Vec<Entry>, NoMemory>
+    ensures entries { (ts : List plain.Event) → AreTold events.now ts → IfOk result (λ es. es.items ≡ entries_of (labels_of labels.old) ts) }
+    ensures labels { (ts : List plain.Event) → AreTold events.now ts → OnOk result (labels_of labels.new ≡ labels_after ts (labels_of labels.old)) }
+    ensures noted { (ts : List plain.Event) → AreTold events.now ts → OnOk result (journal.new ≡ noting ts journal.old) }
+    ensures names { OnOk result (KeepsNames labels.old labels.new) }
+{
+    note_all(journal, events)?;
+    let told = tell_each(alloc, labels, events)?;
     Ok(told)
 }

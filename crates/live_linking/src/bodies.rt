@@ -49,11 +49,11 @@ fn target_of(is_own: bool, thing: Thing) -> Target
     }
 }
 
-// What statements act on, in a body of the effect that has its own name.
+// What statements act on, in a body of the effect that has its own name, or of none.
 fn targets_of(
     alloc: Global,
     names: &Names,
-    own: &Name,
+    own: &str,
     targets: &[Name],
 ) -> Result<Vec<Target>, NoMemory>
     ensures { IfOk result (λ ts. ts.items ≡ map (target_named names.now own.now) targets.now) }
@@ -61,7 +61,7 @@ fn targets_of(
     let mut found = Vec::new(alloc);
     for name in targets {
         let thing = thing_or_none(names.meaning_of(name));
-        found.push(target_of(own == name, thing))?;
+        found.push(target_of(own == name.as_str(), thing))?;
     }
     Ok(found)
 }
@@ -79,8 +79,8 @@ fn rewires_of(alloc: Global, names: &Names, rewires: &[Rewire]) -> Result<Vec<Sl
 }
 
 /// What the places of a body stand for, those of its nested effects too, by the names that stand there. The own name of the effect
-/// stands for the effect itself.
-pub fn links_of(alloc: Global, names: &Names, own: &Name, body: &Body) -> Result<Links, NoMemory>
+/// stands for the effect itself; the body of a handler belongs to no effect, and has the empty name.
+pub fn links_of(alloc: Global, names: &Names, own: &str, body: &Body) -> Result<Links, NoMemory>
     ensures { IfOk result (λ l. (others : Bodies) → links_before l (links_of names.now own.now others) ≡ links_of names.now own.now (before body.now others)) }
 {
     let mut inner = Vec::new(alloc);

@@ -1,5 +1,6 @@
 -- Pages are made and brought up to date, one after the other.
-use Rattle.std.proofs.Common.{◌≡◌, ◌≤◌, ◌<◌, ◌+◌, ◌-◌, ◌*◌, ◌^◌, ℕ, zero, suc, arith, List, [], ◌∷◌, ◌++◌, length, take, drop, map, get_or, refl, sym, ap, subst, ◌∙◌, append_assoc}
+use Rattle.std.proofs.Common.{◌≡◌, ◌≤◌, ◌<◌, ◌+◌, ◌-◌, ◌*◌, ◌^◌, ℕ, zero, suc, arith, List, [], ◌∷◌, ◌++◌, length, take, drop, map, get_or, Option, Some, None, refl, sym, ap, subst, ◌∙◌, append_assoc}
+use Rattle.std.specs.Option.{option_map}
 use Rattle.std.specs.Prelude.{slice_set}
 use Rattle.std.specs.List.{AllByRecursion}
 use Rattle.std.proofs.lemmas.List.{append-nil, drop_more, length-append, length-drop}
@@ -27,16 +28,20 @@ use Rattle.effect_world.specs.Stores.{Agrees, Does, IsSound}
 use Rattle.effect_world.specs.Wholes.{whole_of}
 use Rattle.live_entries.specs.declared.entry.Entry.{Entry}
 use Rattle.live_entries.specs.declared.entry.Entry.TheVariants as entry
+use Rattle.why_model.specs.Facts.{has_run}
+use Rattle.why_model.specs.Records.{Journal, with_fact, with_facts}
+use Rattle.live_why.specs.Views as facts
+use Rattle.live_model.specs.Journals.{noting}
 use Rattle.live_model.specs.Labels.{Labels, labels_after}
 use Rattle.live_model.specs.Pages.{asked_of, template_in, Page, Template}
 use Rattle.live_model.specs.Machine as plain
 use Rattle.live_model.specs.Machine.{Told, updated_page, update_of, entries_of, news_of, ops_told, settling, reached, update_all}
 use Rattle.live_model.proofs.Shared.{page_law}
 use Rattle.live_labels.specs.Entries.{note_entry}
-use Rattle.live_labels.proofs.Shared.{all_rename, all_told, renamed_by, told_by}
+use Rattle.live_labels.proofs.Shared.{all_noted, all_rename, all_told, noted_by, renamed_by, told_by}
 use Rattle.live_pages.specs.declared.mounted.Mounted.{Mounted}
 use Rattle.live_pages.specs.Views.{page_of}
-use Rattle.live_pages.specs.Updates.{after_reading, bare, updated_to, numbers_of, with_pages, AreUpdated, AreShown, AreStanding, IsUpdated, IsFresh, IsFreshTree, IsMounted}
+use Rattle.live_pages.specs.Updates.{after_reading, bare, told_reading, updated_to, numbers_of, with_pages, AreUpdated, AreShown, AreStanding, IsUpdated, IsFresh, IsFreshTree, IsMounted}
 use Rattle.live_pages.specs.Updates.{IsScratched, IsShown, Settles}
 
 -- ---- one page
@@ -68,17 +73,31 @@ pub settled_labels : (hosts : Hosts) (slacks : List ℕ) (asked later : List Hos
 settled_labels hosts slacks asked later old new names notes l d =
     sym (notes_rename l notes) ∙ ap (λ (es : List Event). renamed_by es l) d.told.behind ∙ all_rename l d.told.more _ d.told.each
 
+-- what is noted of notes is noted of the events that they are
+notes_noted : (notes : List RunNote) (j : Journal) → with_facts (map has_run (map facts.note_of notes)) j ≡ noted_by (noted notes) j
+notes_noted [] j = refl
+notes_noted (n ∷ notes) j = notes_noted notes (with_fact (has_run (facts.note_of n)) j)
+
+-- what is noted of names that were settled
+pub settled_noted : (hosts : Hosts) (slacks : List ℕ) (asked later : List HostPlace) (old new : World) (names : List ℕ) (notes : List RunNote) (journal : Option Journal) →
+    Does hosts asked later old new [] (noted notes) (settle (environment hosts slacks) names) →
+    option_map (with_facts (map has_run (map facts.note_of notes))) journal ≡ noting (settle (environment hosts slacks) names (whole_of asked old)).told journal
+settled_noted hosts slacks asked later old new names notes None d = refl
+settled_noted hosts slacks asked later old new names notes (Some j) d =
+    ap Some (notes_noted notes j ∙ ap (λ (es : List Event). noted_by es j) d.told.behind ∙ all_noted d.told.more _ j d.told.each)
+
 -- a page was made of a template
 pub fresh_made : (hosts : Hosts) (slacks : List ℕ) (asked later : List HostPlace) (l : Labels) (t : Template) (old new : World) (made : NumberedPage) (edits : List Op)
-    (before after : List Entry) (notes : List RunNote) →
+    (before after : List Entry) (first last : Option Journal) (notes : List RunNote) →
     Does hosts asked later old new [] (noted notes) (settle (environment hosts slacks) (asked_of hosts old.graph.state.signals t)) →
     made ≡ (updated_to (environment hosts slacks) asked old t paged.bare).page → edits ≡ (updated_to (environment hosts slacks) asked old t paged.bare).ops →
-    after ≡ before ++ map (note_entry l.signals) (map note_of notes) →
-    IsFresh (environment hosts slacks) l t asked later old new made edits before after
-fresh_made hosts slacks asked later l t old new made edits before after notes d page ops tells = record {
+    after ≡ before ++ map (note_entry l.signals) (map note_of notes) → last ≡ option_map (with_facts (map has_run (map facts.note_of notes))) first →
+    IsFresh (environment hosts slacks) l t asked later old new made edits before after first last
+fresh_made hosts slacks asked later l t old new made edits before after first last notes d page ops tells notes_down = record {
   world = d.whole;
   told = tells ∙ ap (λ (es : List Entry). before ++ es) (settled_told hosts slacks asked later old new (asked_of hosts old.graph.state.signals t) notes l d);
   labels = settled_labels hosts slacks asked later old new (asked_of hosts old.graph.state.signals t) notes l d;
+  noted = notes_down ∙ settled_noted hosts slacks asked later old new (asked_of hosts old.graph.state.signals t) notes first d;
   page = page;
   ops = ops;
   sound = d.sound;
@@ -86,12 +105,12 @@ fresh_made hosts slacks asked later l t old new made edits before after notes d 
 
 -- its operations and its HTML are told
 pub mounted_made : (env : told.Environment) (l : Labels) (templates : List Template) (asked later : List HostPlace) (old new : World) (name : List ℕ) (t : ℕ) (x : Template)
-    (made : NumberedPage) (edits : List Op) (before middle after : List Entry) → x ≡ template_in templates t →
-    IsFresh env l x asked later old new made edits before middle →
+    (made : NumberedPage) (edits : List Op) (before middle after : List Entry) (first last : Option Journal) → x ≡ template_in templates t →
+    IsFresh env l x asked later old new made edits before middle first last →
     after ≡ (middle ++ ops_told name edits) ++ entry.Page name (html_of (tree_of made)) ∷ [] →
-    IsMounted env l templates asked later old new name t made before after
-mounted_made env l templates asked later old new name t x made edits before middle after is fresh tells =
-    let f = subst (λ (y : Template). IsFresh env l y asked later old new made edits before middle) is fresh in
+    IsMounted env l templates asked later old new name t made before after first last
+mounted_made env l templates asked later old new name t x made edits before middle after first last is fresh tells =
+    let f = subst (λ (y : Template). IsFresh env l y asked later old new made edits before middle first last) is fresh in
     let page : List Entry = entry.Page name (html_of (tree_of made)) ∷ [] in
     let runs : List Entry = (after_reading env l asked old (template_in templates t)).entries in
     let changes : List Entry = ops_told name (updated_to env asked old (template_in templates t) paged.bare).ops in
@@ -102,35 +121,40 @@ mounted_made env l templates asked later old new name t x made edits before midd
           ∙ ap (λ (es : List Entry). es ++ page) (append_assoc before runs changes)
           ∙ append_assoc before (runs ++ changes) page;
       labels = f.labels;
+      noted = f.noted;
       page = f.page;
       sound = f.sound;
     }
 
 -- the tree of what a template shows was made
 pub tree_made : (hosts : Hosts) (slacks : List ℕ) (asked later : List HostPlace) (l : Labels) (t : Template) (old new : World) (made : Forest Kind)
-    (before after : List Entry) (notes : List RunNote) →
+    (before after : List Entry) (first last : Option Journal) (notes : List RunNote) →
     Does hosts asked later old new [] (noted notes) (settle (environment hosts slacks) (asked_of hosts old.graph.state.signals t)) →
     made ≡ tree_of (updated_to (environment hosts slacks) asked old t paged.bare).page → after ≡ before ++ map (note_entry l.signals) (map note_of notes) →
-    IsFreshTree (environment hosts slacks) l t asked later old new made before after
-tree_made hosts slacks asked later l t old new made before after notes d tree tells = record {
+    last ≡ option_map (with_facts (map has_run (map facts.note_of notes))) first →
+    IsFreshTree (environment hosts slacks) l t asked later old new made before after first last
+tree_made hosts slacks asked later l t old new made before after first last notes d tree tells notes_down = record {
   world = d.whole;
   told = tells ∙ ap (λ (es : List Entry). before ++ es) (settled_told hosts slacks asked later old new (asked_of hosts old.graph.state.signals t) notes l d);
   labels = settled_labels hosts slacks asked later old new (asked_of hosts old.graph.state.signals t) notes l d;
+  noted = notes_down ∙ settled_noted hosts slacks asked later old new (asked_of hosts old.graph.state.signals t) notes first d;
   tree = tree;
   sound = d.sound;
 }
 
 -- its HTML is that of the template from scratch
 pub scratched_made : (env : told.Environment) (l : Labels) (templates : List Template) (asked later : List HostPlace) (old new : World) (t : ℕ) (x : Template)
-    (made : Forest Kind) (bytes : List ℕ) (before after : List Entry) → x ≡ template_in templates t →
-    IsFreshTree env l x asked later old new made before after → bytes ≡ html_of made → IsScratched env l templates asked later old new t bytes before after
-scratched_made env l templates asked later old new t x made bytes before after is fresh same =
-    let f = subst (λ (y : Template). IsFreshTree env l y asked later old new made before after) is fresh in
+    (made : Forest Kind) (bytes : List ℕ) (before after : List Entry) (first last : Option Journal) → x ≡ template_in templates t →
+    IsFreshTree env l x asked later old new made before after first last → bytes ≡ html_of made →
+    IsScratched env l templates asked later old new t bytes before after first last
+scratched_made env l templates asked later old new t x made bytes before after first last is fresh same =
+    let f = subst (λ (y : Template). IsFreshTree env l y asked later old new made before after first last) is fresh in
     let k : Template = template_in templates t in
     record {
       world = f.world;
       told = f.told;
       labels = f.labels;
+      noted = f.noted;
       html = same ∙ ap (λ (tree : Forest Kind). html_of tree) f.tree
           ∙ page_law paged.bare (template_shape env.hosts old.graph.state.signals k.lines k.links);
       sound = f.sound;
@@ -138,13 +162,14 @@ scratched_made env l templates asked later old new t x made bytes before after i
 
 -- a page was brought up to date
 pub page_up : (hosts : Hosts) (slacks : List ℕ) (asked later : List HostPlace) (l : Labels) (templates : List Template) (old new : World) (p q : Mounted)
-    (edits : List Op) (before after : List Entry) (notes : List RunNote) →
+    (edits : List Op) (before after : List Entry) (first last : Option Journal) (notes : List RunNote) →
     Does hosts asked later old new [] (noted notes) (settle (environment hosts slacks) (asked_of hosts old.graph.state.signals (template_in templates p.template))) →
     page_of q ≡ updated_page (environment hosts slacks) (bare l asked old templates) (page_of p) →
     edits ≡ (update_of (environment hosts slacks) (bare l asked old templates) p.template (page_of p).content).ops →
     after ≡ (before ++ map (note_entry l.signals) (map note_of notes)) ++ news_of (page_of q) edits →
-    IsUpdated (environment hosts slacks) l templates asked later old new p q before after
-page_up hosts slacks asked later l templates old new p q edits before after notes d page ops tells =
+    last ≡ option_map (with_facts (map has_run (map facts.note_of notes))) first →
+    IsUpdated (environment hosts slacks) l templates asked later old new p q before after first last
+page_up hosts slacks asked later l templates old new p q edits before after first last notes d page ops tells notes_down =
     let names : List ℕ = asked_of hosts old.graph.state.signals (template_in templates p.template) in
     let runs : List Entry = (after_reading (environment hosts slacks) l asked old (template_in templates p.template)).entries in
     record {
@@ -154,6 +179,7 @@ page_up hosts slacks asked later l templates old new p q edits before after note
           ∙ ap (λ (es : List Entry). before ++ (es ++ news_of (page_of q) edits)) (settled_told hosts slacks asked later old new names notes l d)
           ∙ (λ i. before ++ (runs ++ news_of (page i) (ops i)));
       labels = settled_labels hosts slacks asked later old new names notes l d;
+      noted = notes_down ∙ settled_noted hosts slacks asked later old new names notes first d;
       page = page;
     }
 
@@ -165,7 +191,7 @@ ahead es t = reached t.machine (es ++ t.entries)
 
 -- The first so many pages are brought up to date, where what host formulas answer is this before and that now.
 pub record UpTo (before after : Hosts → Type 0) (labels : Labels) (asked later : List HostPlace) (first now : World)
-    (all items : List Mounted) (at : ℕ) (tells : List Entry) : Type 0 where
+    (all items : List Mounted) (at : ℕ) (tells : List Entry) (begun sofar : Option Journal) : Type 0 where
   pub done : List Mounted
   pub count : length done ≡ at
   pub items_are : items ≡ done ++ drop at all
@@ -180,8 +206,8 @@ pub record UpTo (before after : Hosts → Type 0) (labels : Labels) (asked later
   pub answers : (hosts : Hosts) → before hosts → after hosts
   pub sound : (hosts : Hosts) → before hosts → IsSound hosts asked first → IsSound hosts later now
   pub whole : (hosts : Hosts) (slacks : List ℕ) (m : plain.Machine) → before hosts → IsSound hosts asked first → AreShown m.templates all →
-      update_all (environment hosts slacks) (map page_of all) (with_pages m labels asked first [])
-      ≡ ahead tells (update_all (environment hosts slacks) (map page_of (drop at all)) (with_pages m labels later now done))
+      update_all (environment hosts slacks) (map page_of all) (with_pages m labels asked first begun [])
+      ≡ ahead tells (update_all (environment hosts slacks) (map page_of (drop at all)) (with_pages m labels later now sofar done))
 
 map_append : {A B : Type 0} (f : A → B) (xs ys : List A) → map f (xs ++ ys) ≡ map f xs ++ map f ys
 map_append f [] ys = refl
@@ -203,9 +229,9 @@ set_seam [] ys y z i e = rw (sym e) refl
 set_seam (x ∷ xs) ys y z zero e = absurd (omega (arith, e))
 set_seam (x ∷ xs) ys y z (suc i) e = ap (λ zs. x ∷ zs) (set_seam xs ys y z i (omega (arith, e)))
 
-pub up_to_none : (before : Hosts → Type 0) (labels : Labels) (asked : List HostPlace) (w : World) (all items : List Mounted) (tells : List Entry) →
-    items ≡ all → tells ≡ [] → Agrees asked w → AreStanding all → UpTo before before labels asked asked w w all items 0 tells
-up_to_none before labels asked w all items tells same none agrees stand = record {
+pub up_to_none : (before : Hosts → Type 0) (labels : Labels) (asked : List HostPlace) (w : World) (all items : List Mounted) (tells : List Entry) (begun : Option Journal) →
+    items ≡ all → tells ≡ [] → Agrees asked w → AreStanding all → UpTo before before labels asked asked w w all items 0 tells begun begun
+up_to_none before labels asked w all items tells begun same none agrees stand = record {
   done = [];
   count = refl;
   items_are = same;
@@ -220,7 +246,7 @@ up_to_none before labels asked w all items tells same none agrees stand = record
   answers = λ hosts a. a;
   sound = λ hosts a s. s;
   whole = λ hosts slacks m a s shown.
-      ap (λ (es : List Entry). ahead es (update_all (environment hosts slacks) (map page_of all) (with_pages m labels asked w []))) (sym none);
+      ap (λ (es : List Entry). ahead es (update_all (environment hosts slacks) (map page_of all) (with_pages m labels asked w begun []))) (sym none);
 }
 
 -- the next page
@@ -229,8 +255,9 @@ pub record IsNextPage (all : List Mounted) (at : ℕ) (p : Mounted) : Type 0 whe
   pub stands : IsStanding (standing p.page)
 
 pub next_page : (before after : Hosts → Type 0) (labels : Labels) (asked later : List HostPlace) (first now : World) (all items : List Mounted) (at : ℕ)
-    (tells : List Entry) (p d : Mounted) → UpTo before after labels asked later first now all items at tells → at < length all → p ≡ get_or items at d → IsNextPage all at p
-next_page before after labels asked later first now all items at tells p d u lt is =
+    (tells : List Entry) (begun sofar : Option Journal) (p d : Mounted) → UpTo before after labels asked later first now all items at tells begun sofar → at < length all →
+    p ≡ get_or items at d → IsNextPage all at p
+next_page before after labels asked later first now all items at tells begun sofar p d u lt is =
     let more : drop at all ≡ get_or all at d ∷ drop (at + 1) all = drop_more all at d lt in
     let same : p ≡ get_or all at d = is ∙ ap (λ (xs : List Mounted). get_or xs at d) (u.items_are ∙ ap (λ (xs : List Mounted). u.done ++ xs) more)
     ∙ at_seam u.done (drop (at + 1) all) (get_or all at d) d at u.count in
@@ -239,17 +266,17 @@ next_page before after labels asked later first now all items at tells p d u lt 
 
 -- it is brought up to date too
 pub up_to_more : (before middle after : Hosts → Type 0) (labels : Labels) (asked later last : List HostPlace) (first now w : World)
-    (all items : List Mounted) (at : ℕ) (tells more : List Entry) (p q d : Mounted) →
-    UpTo before middle labels asked later first now all items at tells → at < length all → p ≡ get_or items at d →
+    (all items : List Mounted) (at : ℕ) (tells more : List Entry) (begun sofar ended : Option Journal) (p q d : Mounted) →
+    UpTo before middle labels asked later first now all items at tells begun sofar → at < length all → p ≡ get_or items at d →
     ((hosts : Hosts) (slacks : List ℕ) (templates : List Template) → middle hosts → IsSound hosts later now → IsShown templates p →
-    IsUpdated (environment hosts slacks) labels templates later last now w p q tells more) →
+    IsUpdated (environment hosts slacks) labels templates later last now w p q tells more sofar ended) →
     ((templates : List Template) → IsShown templates p → IsShown templates q) →
     ((hosts : Hosts) → middle hosts → IsSound hosts later now → IsSound hosts last w) →
     q.number ≡ p.number → Settles now w → Agrees last w → w.graph.state.worn ≤ now.graph.state.worn + 2 ^ 64 → most_asked last ≤ most_asked later + 2 ^ 71 →
     ((hosts : Hosts) → middle hosts → after hosts) →
-    UpTo before after labels asked last first w all (slice_set items at q) (at + 1) more
-up_to_more before middle after labels asked later last first now w all items at tells more p q d u lt is up shown sound number stays agrees worn most answers =
-    let next : IsNextPage all at p = next_page before middle labels asked later first now all items at tells p d u lt is in
+    UpTo before after labels asked last first w all (slice_set items at q) (at + 1) more begun ended
+up_to_more before middle after labels asked later last first now w all items at tells more begun sofar ended p q d u lt is up shown sound number stays agrees worn most answers =
+    let next : IsNextPage all at p = next_page before middle labels asked later first now all items at tells begun sofar p d u lt is in
     let rest : List Mounted = drop (at + 1) all in
     let stand : AreStanding (p ∷ rest) = subst AreStanding next.is u.stand in
     let here : (templates : List Template) → AreShown templates all → AreShown templates (p ∷ rest) =
@@ -283,16 +310,21 @@ up_to_more before middle after labels asked later last first now w all items at 
           let v : plain.Machine = bare labels later now m.templates in
           let t : Told = settling env v (plain.template_reads env v p.template) in
           let news : List Entry = news_of (updated_page env v (page_of p)) (update_of env v p.template (page_of p).content).ops in
-          let r : Told = update_all env (map page_of rest) (with_pages m labels last w (u.done ++ q ∷ [])) in
-          let after : record m { labels = t.machine.labels; world = t.machine.world; pages = map page_of u.done ++ updated_page env v (page_of p) ∷ [] }
-          ≡ with_pages m labels last w (u.done ++ q ∷ []) =
+          let r : Told = update_all env (map page_of rest) (with_pages m labels last w ended (u.done ++ q ∷ [])) in
+          let after : record m {
+            labels = t.machine.labels;
+            world = t.machine.world;
+            journal = noting (told_reading env later now (template_in m.templates p.template)) sofar;
+            pages = map page_of u.done ++ updated_page env v (page_of p) ∷ [];
+          } ≡ with_pages m labels last w ended (u.done ++ q ∷ []) =
           (λ i. record m {
             labels = sym b.labels i;
             world = sym b.world i;
+            journal = sym b.noted i;
             pages = (ap (λ (x : Page). map page_of u.done ++ x ∷ []) (sym b.page) ∙ sym (map_append page_of u.done (q ∷ []))) i;
           }) in
           u.whole hosts slacks m a s all_shown
-          ∙ ap (λ (xs : List Mounted). ahead tells (update_all env (map page_of xs) (with_pages m labels later now u.done))) next.is
+          ∙ ap (λ (xs : List Mounted). ahead tells (update_all env (map page_of xs) (with_pages m labels later now sofar u.done))) next.is
           ∙ ap (λ (x : plain.Machine). ahead tells (let y = update_all env (map page_of rest) x in reached y.machine ((t.entries ++ news) ++ y.entries))) after
           ∙ ap (λ (es : List Entry). reached r.machine es)
           (sym (append_assoc tells (t.entries ++ news) r.entries)
@@ -306,31 +338,31 @@ empty (x ∷ xs) e = absurd (omega (arith, e))
 
 -- all are
 pub all_up : (before after : Hosts → Type 0) (labels : Labels) (asked later : List HostPlace) (first now : World) (all items : List Mounted) (at : ℕ)
-    (tells : List Entry) → UpTo before after labels asked later first now all items at tells → length all ≤ at →
+    (tells : List Entry) (begun sofar : Option Journal) → UpTo before after labels asked later first now all items at tells begun sofar → length all ≤ at →
     (hosts : Hosts) (slacks : List ℕ) (m : plain.Machine) → before hosts → IsSound hosts asked first → AreShown m.templates all →
-    AreUpdated (environment hosts slacks) m labels asked later first now all items tells
-all_up before after labels asked later first now all items at tells u end hosts slacks m a s shown =
+    AreUpdated (environment hosts slacks) m labels asked later first now all items tells begun sofar
+all_up before after labels asked later first now all items at tells begun sofar u end hosts slacks m a s shown =
     let none : drop at all ≡ [] = empty (drop at all) (length-drop at all ∙ omega (arith, end)) in
     let same : u.done ≡ items = sym (u.items_are ∙ ap (λ (xs : List Mounted). u.done ++ xs) none ∙ append-nil u.done) in
     record {
       step = sym (u.whole hosts slacks m a s shown
-          ∙ ap (λ (xs : List Mounted). ahead tells (update_all (environment hosts slacks) (map page_of xs) (with_pages m labels later now u.done))) none
-          ∙ ap (λ (es : List Entry). reached (with_pages m labels later now u.done) es) (append-nil tells)
-          ∙ ap (λ (xs : List Mounted). reached (with_pages m labels later now xs) tells) same);
+          ∙ ap (λ (xs : List Mounted). ahead tells (update_all (environment hosts slacks) (map page_of xs) (with_pages m labels later now sofar u.done))) none
+          ∙ ap (λ (es : List Entry). reached (with_pages m labels later now sofar u.done) es) (append-nil tells)
+          ∙ ap (λ (xs : List Mounted). reached (with_pages m labels later now sofar xs) tells) same);
     }
 
 -- and show what they should
 pub all_shown : (before after : Hosts → Type 0) (labels : Labels) (asked later : List HostPlace) (first now : World) (all items : List Mounted) (at : ℕ)
-    (tells : List Entry) → UpTo before after labels asked later first now all items at tells → length all ≤ at →
+    (tells : List Entry) (begun sofar : Option Journal) → UpTo before after labels asked later first now all items at tells begun sofar → length all ≤ at →
     (templates : List Template) → AreShown templates all → AreShown templates items
-all_shown before after labels asked later first now all items at tells u end templates shown =
+all_shown before after labels asked later first now all items at tells begun sofar u end templates shown =
     let none : drop at all ≡ [] = empty (drop at all) (length-drop at all ∙ omega (arith, end)) in
     subst (AreShown templates) (sym (u.items_are ∙ ap (λ (xs : List Mounted). u.done ++ xs) none ∙ append-nil u.done)) (u.shown templates shown)
 
 -- as many pages as before
 pub same_count : (before after : Hosts → Type 0) (labels : Labels) (asked later : List HostPlace) (first now : World) (all items : List Mounted) (at : ℕ)
-    (tells : List Entry) → UpTo before after labels asked later first now all items at tells → at ≤ length all → length items ≡ length all
-same_count before after labels asked later first now all items at tells u le =
+    (tells : List Entry) (begun sofar : Option Journal) → UpTo before after labels asked later first now all items at tells begun sofar → at ≤ length all → length items ≡ length all
+same_count before after labels asked later first now all items at tells begun sofar u le =
     let a : length items ≡ length u.done + length (drop at all) = ap length u.items_are ∙ length-append u.done (drop at all) in
     let b : length (drop at all) ≡ length all - at = length-drop at all in
     let d = u.count in
@@ -342,7 +374,7 @@ written_back xs ys n e = ap (λ (k : ℕ). take k (xs ++ drop (length xs) ys)) e
 
 -- the same of a list that is the same
 pub other_pages : (env : told.Environment) (m : plain.Machine) (labels : Labels) (asked later : List HostPlace) (old new : World)
-    (pages now items : List Mounted) (entries : List Entry) → items ≡ now → AreUpdated env m labels asked later old new pages items entries →
-    AreUpdated env m labels asked later old new pages now entries
-other_pages env m labels asked later old new pages now items entries e up =
-    subst (λ (xs : List Mounted). AreUpdated env m labels asked later old new pages xs entries) e up
+    (pages now items : List Mounted) (entries : List Entry) (begun sofar : Option Journal) → items ≡ now →
+    AreUpdated env m labels asked later old new pages items entries begun sofar → AreUpdated env m labels asked later old new pages now entries begun sofar
+other_pages env m labels asked later old new pages now items entries begun sofar e up =
+    subst (λ (xs : List Mounted). AreUpdated env m labels asked later old new pages xs entries begun sofar) e up

@@ -1,5 +1,5 @@
 -- What making a page and bringing it up to date leave and tell.
-use Rattle.std.specs.Prelude.{◌≡◌, ◌<◌, ◌≤◌, true, ℕ, List, [], ◌∷◌, ◌++◌, length, map}
+use Rattle.std.specs.Prelude.{◌≡◌, ◌<◌, ◌≤◌, true, ℕ, List, [], ◌∷◌, ◌++◌, length, map, Option, None}
 use Rattle.std.specs.List.{AllByRecursion}
 use Rattle.sig_base.specs.declared.limits.TheConstants.{MOST_PAGES}
 use Rattle.signal_model.specs.Signals.{is_in}
@@ -15,13 +15,15 @@ use Rattle.tpl_live.specs.Contents.{standing}
 use Rattle.tpl_model.specs.Laws.{IsTemplate}
 use Rattle.tpl_model.specs.Updates.{Updated, updated}
 use Rattle.effect_tables.specs.Consistency.{AreApart}
-use Rattle.effect_model.specs.Worlds.{Environment}
+use Rattle.effect_model.specs.Worlds.{Environment, Event, settle}
 use Rattle.sig_host.specs.Hosts.{HostPlace}
 use Rattle.effect_world.specs.declared.world.World.{World}
 use Rattle.effect_world.specs.Stores.{IsSound}
 use Rattle.effect_world.specs.Wholes.{whole_of}
 use Rattle.live_entries.specs.declared.entry.Entry.{Entry}
 use Rattle.live_entries.specs.declared.entry.Entry.TheVariants as entry
+use Rattle.why_model.specs.Records.{Journal}
+use Rattle.live_model.specs.Journals.{noting}
 use Rattle.live_model.specs.Labels as called
 use Rattle.live_model.specs.Machine as plain
 use Rattle.live_model.specs.Machine.{updated_page, update_of, news_of, ops_told, settling, template_reads, reached, update_all}
@@ -58,13 +60,13 @@ pub record ArePages (w : World) (pages : List Mounted) : Type 0 where
   pub below : AllByRecursion (λ (n : ℕ). n < w.tables.pages_made) (numbers_of pages)
   pub few : length pages ≤ MOST_PAGES
 
--- a plain machine with these labels, this world and these pages
-abbrev pub with_pages : plain.Machine → called.Labels → List HostPlace → World → List Mounted → plain.Machine
-with_pages m labels asked w pages = record m { labels = labels; world = whole_of asked w; pages = map page_of pages }
+-- a plain machine with these labels, this world, this journal and these pages
+abbrev pub with_pages : plain.Machine → called.Labels → List HostPlace → World → Option Journal → List Mounted → plain.Machine
+with_pages m labels asked w journal pages = record m { labels = labels; world = whole_of asked w; journal = journal; pages = map page_of pages }
 
--- one that has templates, and no pages
+-- one that has templates, and neither a journal nor pages
 abbrev pub bare : called.Labels → List HostPlace → World → List Template → plain.Machine
-bare labels asked w templates = with_pages (record (plain.empty 0) { templates = templates }) labels asked w []
+bare labels asked w templates = with_pages (record (plain.empty 0) { templates = templates }) labels asked w None []
 
 -- the world after settling: signals, watchers and tables stay, and as many signals are made as before
 pub record Settles (old new : World) : Type 0 where
@@ -81,28 +83,34 @@ after_reading env ls asked w t = settling env (bare ls asked w []) (asked_of env
 abbrev pub updated_to : Environment → List HostPlace → World → Template → NumberedPage → Updated
 updated_to env asked w t old = updated env.hosts (whole_of asked w).signals t.lines t.links (whole_of asked w).memos old
 
--- What a template reads was settled and told, and this is what comes of a page without nodes, and how.
+-- what is told where the names that a template reads are settled
+abbrev pub told_reading : Environment → List HostPlace → World → Template → List Event
+told_reading env asked w t = (settle env (asked_of env.hosts (whole_of asked w).signals t) (whole_of asked w)).told
+
+-- What a template reads was settled, told and noted, and this is what comes of a page without nodes, and how.
 pub record IsFresh (env : Environment) (ls : called.Labels) (t : Template) (asked later : List HostPlace) (old new : World)
-    (made : NumberedPage) (edits : List Op) (before after : List Entry) : Type 0 where
+    (made : NumberedPage) (edits : List Op) (before after : List Entry) (first last : Option Journal) : Type 0 where
   pub world : whole_of later new ≡ (after_reading env ls asked old t).machine.world
   pub told : after ≡ before ++ (after_reading env ls asked old t).entries
   pub labels : ls ≡ (after_reading env ls asked old t).machine.labels
+  pub noted : last ≡ noting (told_reading env asked old t) first
   pub page : made ≡ (updated_to env asked old t paged.bare).page
   pub ops : edits ≡ (updated_to env asked old t paged.bare).ops
   pub sound : IsSound env.hosts later new
 
--- What a template reads was settled and told, and this is the tree of what it shows from scratch: that of a page which is made of it.
+-- What a template reads was settled, told and noted, and this is the tree of what it shows from scratch: that of a page which is made of it.
 pub record IsFreshTree (env : Environment) (ls : called.Labels) (t : Template) (asked later : List HostPlace) (old new : World)
-    (made : Forest Kind) (before after : List Entry) : Type 0 where
+    (made : Forest Kind) (before after : List Entry) (first last : Option Journal) : Type 0 where
   pub world : whole_of later new ≡ (after_reading env ls asked old t).machine.world
   pub told : after ≡ before ++ (after_reading env ls asked old t).entries
   pub labels : ls ≡ (after_reading env ls asked old t).machine.labels
+  pub noted : last ≡ noting (told_reading env asked old t) first
   pub tree : made ≡ tree_of (updated_to env asked old t paged.bare).page
   pub sound : IsSound env.hosts later new
 
--- A page was made, on the signals of a machine: what it reads is settled and told, then the operations that lead to it, and then the page.
+-- A page was made, on the signals of a machine: what it reads is settled, told and noted, then the operations that lead to it, and then the page.
 pub record IsMounted (env : Environment) (ls : called.Labels) (templates : List Template) (asked later : List HostPlace)
-    (old new : World) (name : List ℕ) (template : ℕ) (made : NumberedPage) (before after : List Entry) : Type 0 where
+    (old new : World) (name : List ℕ) (template : ℕ) (made : NumberedPage) (before after : List Entry) (first last : Option Journal) : Type 0 where
   pub world : whole_of later new ≡ (settling env (bare ls asked old templates)
       (template_reads env (bare ls asked old templates) template)).machine.world
   pub told : after
@@ -110,22 +118,24 @@ pub record IsMounted (env : Environment) (ls : called.Labels) (templates : List 
       ++ ops_told name (update_of env (bare ls asked old templates) template paged.bare).ops
       ++ entry.Page name (html_of (tree_of made)) ∷ [])
   pub labels : ls ≡ (settling env (bare ls asked old templates) (template_reads env (bare ls asked old templates) template)).machine.labels
+  pub noted : last ≡ noting (told_reading env asked old (template_in templates template)) first
   pub page : made ≡ (update_of env (bare ls asked old templates) template paged.bare).page
   pub sound : IsSound env.hosts later new
 
--- What a template reads was settled and told, and this is the HTML of what it shows from scratch.
+-- What a template reads was settled, told and noted, and this is the HTML of what it shows from scratch.
 pub record IsScratched (env : Environment) (ls : called.Labels) (templates : List Template) (asked later : List HostPlace)
-    (old new : World) (template : ℕ) (bytes : List ℕ) (before after : List Entry) : Type 0 where
+    (old new : World) (template : ℕ) (bytes : List ℕ) (before after : List Entry) (first last : Option Journal) : Type 0 where
   pub world : whole_of later new ≡ (settling env (bare ls asked old templates)
       (template_reads env (bare ls asked old templates) template)).machine.world
   pub told : after ≡ before ++ (settling env (bare ls asked old templates) (template_reads env (bare ls asked old templates) template)).entries
   pub labels : ls ≡ (settling env (bare ls asked old templates) (template_reads env (bare ls asked old templates) template)).machine.labels
+  pub noted : last ≡ noting (told_reading env asked old (template_in templates template)) first
   pub html : bytes ≡ scratch_html env.hosts (whole_of asked old).signals (template_in templates template)
   pub sound : IsSound env.hosts later new
 
--- A page was brought up to date: what it reads is settled and told, and then its news.
+-- A page was brought up to date: what it reads is settled, told and noted, and then its news.
 pub record IsUpdated (env : Environment) (ls : called.Labels) (templates : List Template) (asked later : List HostPlace)
-    (old new : World) (p q : Mounted) (before after : List Entry) : Type 0 where
+    (old new : World) (p q : Mounted) (before after : List Entry) (first last : Option Journal) : Type 0 where
   pub world : whole_of later new
       ≡ (settling env (bare ls asked old templates) (template_reads env (bare ls asked old templates) p.template)).machine.world
   pub told : after
@@ -133,9 +143,10 @@ pub record IsUpdated (env : Environment) (ls : called.Labels) (templates : List 
       ++ news_of (updated_page env (bare ls asked old templates) (page_of p))
       (update_of env (bare ls asked old templates) p.template (page_of p).content).ops)
   pub labels : ls ≡ (settling env (bare ls asked old templates) (template_reads env (bare ls asked old templates) p.template)).machine.labels
+  pub noted : last ≡ noting (told_reading env asked old (template_in templates p.template)) first
   pub page : page_of q ≡ updated_page env (bare ls asked old templates) (page_of p)
 
 -- All pages of a machine were.
 pub record AreUpdated (env : Environment) (m : plain.Machine) (labels : called.Labels) (asked later : List HostPlace)
-    (old new : World) (pages now : List Mounted) (entries : List Entry) : Type 0 where
-  pub step : reached (with_pages m labels later new now) entries ≡ update_all env (map page_of pages) (with_pages m labels asked old [])
+    (old new : World) (pages now : List Mounted) (entries : List Entry) (first last : Option Journal) : Type 0 where
+  pub step : reached (with_pages m labels later new last now) entries ≡ update_all env (map page_of pages) (with_pages m labels asked old first [])

@@ -20,6 +20,7 @@ use crate::report::{tell_ops, tell_page, tree_html};
 use effect_world::World;
 use live_entries::{Entry, PageBytes};
 use live_labels::{Labels, tell_runs};
+use live_why::Recorder;
 use page_ops::Op;
 use page_tree::Tree;
 use sig_base::{Name, NoMemory, NodeId};
@@ -44,6 +45,7 @@ fn fresh(
     shelf: &mut Shelf,
     linked: &LinkedTemplate,
     labels: &Labels,
+    journal: &mut Option<Recorder>,
     told: &mut Vec<Entry>,
 ) -> Result<(Box<Page>, Vec<Op>), NoMemory>
     requires template { IsTemplate (lines_of linked.now.template) }
@@ -54,7 +56,7 @@ fn fresh(
     ensures page { (hosts : Hosts) (slacks : List ℕ) → ⟦<Shelf as Lent>⟧.answers hosts shelf.old →
         IsSound hosts (⟦<Shelf as Lent>⟧.asked shelf.old) world.old →
         IfOk result (λ made. IsFresh (environment hosts slacks) (labels_of labels.now) (template_of linked.now) (⟦<Shelf as Lent>⟧.asked shelf.old)
-        (⟦<Shelf as Lent>⟧.asked shelf.new) world.old world.new (page_in (standing made.0.value)) (map op_of made.1.items) told.old.items told.new.items) }
+        (⟦<Shelf as Lent>⟧.asked shelf.new) world.old world.new (page_in (standing made.0.value)) (map op_of made.1.items) told.old.items told.new.items journal.old journal.new) }
     ensures stands { IfOk result (λ made. Stands (lines_of linked.now.template) linked.now.links.items (standing made.0.value)) }
     ensures standing { IfOk result (λ made. IsStanding (standing made.0.value)) }
     ensures world { OnOk result (Settles world.old world.new) }
@@ -70,7 +72,7 @@ fn fresh(
     let (page, ops) = Page::mount(&mut world.graph, shelf, &linked.template, links, &mut notes)?;
     let page = Box::new(alloc, page)?;
     let _count = notes.len();
-    tell_runs(told, &labels.signals, &notes)?;
+    tell_runs(told, &labels.signals, journal, &notes)?;
     Ok((page, ops))
 }
 
@@ -86,6 +88,7 @@ pub fn mount(
     shelf: &mut Shelf,
     templates: &[LinkedTemplate],
     labels: &Labels,
+    journal: &mut Option<Recorder>,
     name: &Name,
     template: u128,
     told: &mut Vec<Entry>,
@@ -99,7 +102,7 @@ pub fn mount(
     ensures page { (hosts : Hosts) (slacks : List ℕ) → ⟦<Shelf as Lent>⟧.answers hosts shelf.old →
         IsSound hosts (⟦<Shelf as Lent>⟧.asked shelf.old) world.old →
         IfOk result (λ page. IsMounted (environment hosts slacks) (labels_of labels.now) (map template_of templates.now) (⟦<Shelf as Lent>⟧.asked shelf.old)
-        (⟦<Shelf as Lent>⟧.asked shelf.new) world.old world.new name.now template (page_in (standing page)) told.old.items told.new.items) }
+        (⟦<Shelf as Lent>⟧.asked shelf.new) world.old world.new name.now template (page_in (standing page)) told.old.items told.new.items journal.old journal.new) }
     ensures stands { IfOk result (λ page. Stands (template_in (map template_of templates.now) template).lines
         (template_in (map template_of templates.now) template).links (standing page)) }
     ensures world { OnOk result (Settles world.old world.new) }
@@ -110,7 +113,7 @@ pub fn mount(
     ensures most { OnOk result (most_asked (⟦<Shelf as Lent>⟧.asked shelf.new) ≤ most_asked (⟦<Shelf as Lent>⟧.asked shelf.old) + 2 ^ 71) }
 {
     let linked = template_among(templates, template);
-    let (page, ops) = fresh(world, shelf, linked, labels, told)?;
+    let (page, ops) = fresh(world, shelf, linked, labels, journal, told)?;
     tell_ops(told, name, ops)?;
     tell_page(told, name, &page)?;
     Ok(Box::into_inner(page))
@@ -123,6 +126,7 @@ fn fresh_tree(
     shelf: &mut Shelf,
     linked: &LinkedTemplate,
     labels: &Labels,
+    journal: &mut Option<Recorder>,
     told: &mut Vec<Entry>,
 ) -> Result<Tree, NoMemory>
     requires template { IsTemplate (lines_of linked.now.template) }
@@ -133,7 +137,7 @@ fn fresh_tree(
     ensures tree { (hosts : Hosts) (slacks : List ℕ) → ⟦<Shelf as Lent>⟧.answers hosts shelf.old →
         IsSound hosts (⟦<Shelf as Lent>⟧.asked shelf.old) world.old →
         IfOk result (λ tree. IsFreshTree (environment hosts slacks) (labels_of labels.now) (template_of linked.now) (⟦<Shelf as Lent>⟧.asked shelf.old)
-        (⟦<Shelf as Lent>⟧.asked shelf.new) world.old world.new tree told.old.items told.new.items) }
+        (⟦<Shelf as Lent>⟧.asked shelf.new) world.old world.new tree told.old.items told.new.items journal.old journal.new) }
     ensures world { OnOk result (Settles world.old world.new) }
     ensures agrees { OnOk result (Agrees (⟦<Shelf as Lent>⟧.asked shelf.new) world.new) }
     ensures worn { OnOk result (world.new.graph.state.worn ≤ world.old.graph.state.worn + 2 ^ 64) }
@@ -150,7 +154,7 @@ fn fresh_tree(
         &mut notes,
     )?;
     let _count = notes.len();
-    tell_runs(told, &labels.signals, &notes)?;
+    tell_runs(told, &labels.signals, journal, &notes)?;
     Ok(tree)
 }
 
@@ -165,6 +169,7 @@ pub fn scratch(
     shelf: &mut Shelf,
     templates: &[LinkedTemplate],
     labels: &Labels,
+    journal: &mut Option<Recorder>,
     template: u128,
     told: &mut Vec<Entry>,
 ) -> Result<PageBytes, NoMemory>
@@ -177,7 +182,7 @@ pub fn scratch(
     ensures html { (hosts : Hosts) (slacks : List ℕ) → ⟦<Shelf as Lent>⟧.answers hosts shelf.old →
         IsSound hosts (⟦<Shelf as Lent>⟧.asked shelf.old) world.old →
         IfOk result (λ html. IsScratched (environment hosts slacks) (labels_of labels.now) (map template_of templates.now) (⟦<Shelf as Lent>⟧.asked shelf.old)
-        (⟦<Shelf as Lent>⟧.asked shelf.new) world.old world.new template html told.old.items told.new.items) }
+        (⟦<Shelf as Lent>⟧.asked shelf.new) world.old world.new template html told.old.items told.new.items journal.old journal.new) }
     ensures world { OnOk result (Settles world.old world.new) }
     ensures agrees { OnOk result (Agrees (⟦<Shelf as Lent>⟧.asked shelf.new) world.new) }
     ensures worn { OnOk result (world.new.graph.state.worn ≤ world.old.graph.state.worn + 2 ^ 64) }
@@ -186,7 +191,7 @@ pub fn scratch(
     ensures most { OnOk result (most_asked (⟦<Shelf as Lent>⟧.asked shelf.new) ≤ most_asked (⟦<Shelf as Lent>⟧.asked shelf.old) + 2 ^ 71) }
 {
     let linked = template_among(templates, template);
-    let tree = fresh_tree(world, shelf, linked, labels, told)?;
+    let tree = fresh_tree(world, shelf, linked, labels, journal, told)?;
     let html = tree_html(*told.allocator(), &tree)?;
     Ok(html)
 }

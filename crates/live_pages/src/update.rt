@@ -17,6 +17,7 @@ use crate::report::tell_news;
 use effect_world::World;
 use live_entries::Entry;
 use live_labels::{Labels, tell_runs};
+use live_why::Recorder;
 use sig_base::NoMemory;
 use sig_host::{Lent, Shelf};
 use std::alloc::Global;
@@ -27,6 +28,7 @@ fn bring_up(
     world: &mut World,
     shelf: &mut Shelf,
     labels: &Labels,
+    journal: &mut Option<Recorder>,
     page: &mut Mounted,
     told: &mut Vec<Entry>,
 ) -> Result<(), NoMemory>
@@ -39,7 +41,7 @@ fn bring_up(
         IsSound hosts (⟦<Shelf as Lent>⟧.asked shelf.old) world.old → IsShown templates page.old →
         OnOk result (IsUpdated (environment hosts slacks) (labels_of labels.now)
         templates (⟦<Shelf as Lent>⟧.asked shelf.old) (⟦<Shelf as Lent>⟧.asked shelf.new)
-        world.old world.new page.old page.new told.old.items told.new.items) }
+        world.old world.new page.old page.new told.old.items told.new.items journal.old journal.new) }
     ensures shown { (templates : List Template) → IsShown templates page.old → OnOk result (IsShown templates page.new) }
     ensures sound { (hosts : Hosts) → ⟦<Shelf as Lent>⟧.answers hosts shelf.old → IsSound hosts (⟦<Shelf as Lent>⟧.asked shelf.old) world.old →
         OnOk result (IsSound hosts (⟦<Shelf as Lent>⟧.asked shelf.new) world.new) }
@@ -55,7 +57,7 @@ fn bring_up(
     let mut notes = Vec::new(*told.allocator());
     let ops = page.page.update(&mut world.graph, shelf, &mut notes)?;
     let _count = notes.len();
-    tell_runs(told, &labels.signals, &notes)?;
+    tell_runs(told, &labels.signals, journal, &notes)?;
     tell_news(told, page, ops)?;
     Ok(())
 }
@@ -72,6 +74,7 @@ pub fn bring_all_up(
     world: &mut World,
     shelf: &mut Shelf,
     labels: &Labels,
+    journal: &mut Option<Recorder>,
     pages: &mut Vec<Mounted>,
 ) -> Result<Vec<Entry>, NoMemory>
     requires agrees { Agrees (⟦<Shelf as Lent>⟧.asked shelf.old) world.old }
@@ -84,7 +87,7 @@ pub fn bring_all_up(
         IsSound hosts (⟦<Shelf as Lent>⟧.asked shelf.old) world.old → AreShown m.templates pages.old.items →
         IfOk result (λ es. AreUpdated (environment hosts slacks) m
         (labels_of labels.now) (⟦<Shelf as Lent>⟧.asked shelf.old) (⟦<Shelf as Lent>⟧.asked shelf.new)
-        world.old world.new pages.old.items pages.new.items es.items) }
+        world.old world.new pages.old.items pages.new.items es.items journal.old journal.new) }
     ensures shown { (templates : List Template) → AreShown templates pages.old.items → OnOk result (AreShown templates pages.new.items) }
     ensures sound { (hosts : Hosts) → ⟦<Shelf as Lent>⟧.answers hosts shelf.old → IsSound hosts (⟦<Shelf as Lent>⟧.asked shelf.old) world.old →
         OnOk result (IsSound hosts (⟦<Shelf as Lent>⟧.asked shelf.new) world.new) }
@@ -98,7 +101,7 @@ pub fn bring_all_up(
 {
     let mut told = Vec::new(alloc);
     for page in pages.iter_mut() {
-        bring_up(world, shelf, labels, page, &mut told)?;
+        bring_up(world, shelf, labels, journal, page, &mut told)?;
     }
     Ok(told)
 }

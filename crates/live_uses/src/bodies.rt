@@ -87,8 +87,8 @@ fn put_set<'a, 'b>(
     put_formula(alloc, uses, named.names, formula)
 }
 
-// Puts uses behind others.
-fn put_all<'a>(uses: &mut Vec<Use<'a>>, more: &[Use<'a>]) -> Result<(), NoMemory>
+/// Puts uses behind others.
+pub(crate) fn put_all<'a>(uses: &mut Vec<Use<'a>>, more: &[Use<'a>]) -> Result<(), NoMemory>
     ensures { OnOk result (map use_of uses.new.items ≡ map use_of uses.old.items ++ map use_of more.now) }
 {
     for used in more {

@@ -2,12 +2,13 @@
 ghost use Rattle.std.specs.Prelude.{◌≡◌, ◌++◌, ◌∷◌, IfOk, OnOk, map};
 ghost use Rattle.live_model.specs.declared.names.Kind.TheVariants as kind;
 ghost use Rattle.live_model.specs.declared.names.Need.TheVariants as need;
-ghost use Rattle.live_model.specs.Uses.{need_of, uses_of, uses_of_formula, uses_of_inside, uses_of_source};
+ghost use Rattle.live_model.specs.Uses.{need_of, uses_of, uses_of_body, uses_of_formula, uses_of_inside, uses_of_source};
 ghost use Rattle.live_uses.specs.Views.{use_of};
 
+use crate::bodies::{put_all, uses_of_body};
 use crate::uses::{Use, put_signals, put_use};
 use formula_text::Wired;
-use live_cmd::{Command, SourceText, Verb};
+use live_cmd::{Command, EffectBody, SourceText, Verb};
 use live_model::{Kind, Need};
 use sig_base::{Name, NoMemory};
 use std::alloc::Global;
@@ -45,7 +46,7 @@ fn need_of(verb: Verb) -> Need
     match verb {
         Verb::Get => Need::Signal,
         Verb::Dispose => Need::Thing,
-        Verb::State | Verb::Sources => Need::Of(Kind::Computed),
+        Verb::State | Verb::Sources | Verb::Why => Need::Of(Kind::Computed),
         Verb::Pending => Need::Of(Kind::Watcher),
         Verb::Show | Verb::Scratch => Need::Of(Kind::Page),
     }
@@ -91,6 +92,20 @@ fn put_mount<'a>(
     put_inside(uses, inside)
 }
 
+// Puts the names of a handler that is made: that of its template, and those in its body.
+fn put_handler<'a>(
+    uses: &mut Vec<Use<'a>>,
+    template: &'a Name,
+    body: &'a EffectBody,
+) -> Result<(), NoMemory>
+    ensures { OnOk result (map use_of uses.new.items ≡ map use_of uses.old.items ++ (template.now, need.Of kind.Template) ∷ uses_of_body body.now) }
+{
+    put_use(uses, template, Need::Of(Kind::Template))?;
+    let inside = uses_of_body(*uses.allocator(), body.as_body())?;
+    put_all(uses, &inside)?;
+    Ok(())
+}
+
 fn put_uses<'a>(uses: &mut Vec<Use<'a>>, command: &'a Command) -> Result<(), NoMemory>
     ensures { OnOk result (map use_of uses.new.items ≡ map use_of uses.old.items ++ uses_of command.now) }
 {
@@ -119,6 +134,8 @@ fn put_uses<'a>(uses: &mut Vec<Use<'a>>, command: &'a Command) -> Result<(), NoM
             put_use(uses, signal, Need::Signal)
         }
         Command::Effect { name, inside, .. } => put_making(uses, name, inside),
+        Command::On { template, body, .. } => put_handler(uses, template, body),
+        Command::Fire { page, .. } => put_use(uses, page, Need::Of(Kind::Page)),
         Command::Template { name, template } => {
             put_use(uses, name, Need::New)?;
             put_signals(uses, template.names())

@@ -1,4 +1,5 @@
 use Rattle.std.proofs.Common.{◌≡◌, ◌++◌, [], ℕ, List, length, map, arith, refl, ap, subst, ◌∙◌}
+use Rattle.std.specs.Option.{option_map}
 use Rattle.std.proofs.lemmas.List.{length-map}
 use Rattle.sig_computed.specs.Notes.{note_of, IsSettling}
 use Rattle.sig_computed.specs.declared.notes.RunNote.{RunNote}
@@ -9,6 +10,9 @@ use Rattle.page_model.specs.Pages.{bare}
 use Rattle.tpl_live.specs.Pages.{page_in}
 use Rattle.tpl_live.specs.Contents.{standing}
 use Rattle.tpl_model.specs.Updates.{Updated, updated}
+use Rattle.why_model.specs.Facts.{has_run}
+use Rattle.why_model.specs.Records.{with_facts}
+use Rattle.live_why.specs.Views as facts
 use Rattle.live_model.specs.Pages.{asked_of}
 use Rattle.live_labels.specs.Entries.{note_entry}
 use Rattle.live_labels.specs.Views.{labels_of}
@@ -32,10 +36,12 @@ returns-clause-page g c = λ hosts slacks all sound.
     (map note_of ns) (map note_of c.mount.new.notes.items) c.mount.new.graph.state.memos) none (s.settled hosts all sound.kept))
     (s.asked hosts all sound.kept) refl (s.kept hosts all sound.kept) sound in
     let lifted = settle_done hosts slacks _ _ w new [] _ names d refl c.requires.agrees.owned.tables in
-    fresh_made hosts slacks _ _ (labels_of c.args.labels.now) t w new _ _ c.args.told.now.items c.tell_runs.new.told.items c.mount.new.notes.items lifted
+    fresh_made hosts slacks _ _ (labels_of c.args.labels.now) t w new _ _ c.args.told.now.items c.tell_runs.new.told.items c.args.journal.now c.tell_runs.new.journal
+    c.mount.new.notes.items lifted
     (ap (λ z. page_in (standing z)) c.in_ok-page-2.ensures.ok ∙ (e.page hosts all sound.kept ∙ ap (λ (ls : List ℕ). (carried ls).page) links))
     (e.ops hosts all sound.kept ∙ ap (λ (ls : List ℕ). (carried ls).ops) links)
-    (c.in_ok-tell_runs.ensures ∙ (λ i. c.args.told.now.items ++ map (note_entry (c.deref-2.ensures.value i)) (map note_of (c.deref-3.ensures.value i))))
+    (c.in_ok-tell_runs.ensures.told ∙ (λ i. c.args.told.now.items ++ map (note_entry (c.deref-2.ensures.value i)) (map note_of (c.deref-3.ensures.value i))))
+    (c.in_ok-tell_runs.ensures.noted ∙ ap (λ ns. option_map (with_facts (map has_run (map facts.note_of ns))) c.args.journal.now) c.deref-3.ensures.value)
 
 pub returns-clause-stands : goal.returns-clause-stands
 returns-clause-stands g c = rw c.in_ok-page-2.ensures.ok (rw (c.in_ok-links.ensures, c.deref.ensures.value) at c.in_ok-page.ensures.stands)

@@ -7,7 +7,7 @@ use Rattle.live_pages.proofs.update.bring_all_up.Goals as goal
 
 pub loop-page-init : goal.loop-page-init
 loop-page-init g c = record {
-  up = up_to_none _ (labels_of c.args.labels.now) _ c.args.world.now c.args.pages.now.items _ c.new-told.result.items c.deref_mut-page-items.ensures.value c.new-told.ensures.items c.requires.agrees c.requires.stand;
+  up = up_to_none _ (labels_of c.args.labels.now) _ c.args.world.now c.args.pages.now.items _ c.new-told.result.items c.args.journal.now c.deref_mut-page-items.ensures.value c.new-told.ensures.items c.requires.agrees c.requires.stand;
   counted = c.requires.counted;
   within = omega arith;
 }
@@ -18,7 +18,7 @@ bring_up-requires-clause-agrees g c = c.loop-page.invariant.up.agrees
 pub bring_up-requires-clause-stands : goal.bring_up-requires-clause-stands
 bring_up-requires-clause-stands g c =
     (next_page _ _ (labels_of c.args.labels.now) _ _ c.args.world.now c.loop-page.world c.args.pages.now.items c.loop-page.page-items c.loop-page.page-index c.loop-page.told.items
-    (get_or c.loop-page.page-items c.loop-page.page-index c.page-item.result) c.page-item.result c.loop-page.invariant.up
+    c.args.journal.now c.loop-page.journal (get_or c.loop-page.page-items c.loop-page.page-index c.page-item.result) c.page-item.result c.loop-page.invariant.up
     (rw c.deref_mut-page-items.ensures.value at c.loop-page-test.true) refl).stands
 
 pub bring_up-requires-clause-worn : goal.bring_up-requires-clause-worn
@@ -43,7 +43,7 @@ loop-page-preserved g c =
     let u = c.loop-page.invariant.up in
     record {
       up = up_to_more _ _ _ (labels_of c.args.labels.now) _ _ _ c.args.world.now c.loop-page.world c.bring_up.new.world c.args.pages.now.items c.loop-page.page-items c.loop-page.page-index
-          c.loop-page.told.items c.bring_up.new.told.items (get_or c.loop-page.page-items c.loop-page.page-index c.page-item.result) c.bring_up.new.page c.page-item.result
+          c.loop-page.told.items c.bring_up.new.told.items c.args.journal.now c.loop-page.journal c.bring_up.new.journal (get_or c.loop-page.page-items c.loop-page.page-index c.page-item.result) c.bring_up.new.page c.page-item.result
           u (rw c.deref_mut-page-items.ensures.value at c.loop-page-test.true) refl (λ hosts slacks templates a s shown. e.page hosts slacks templates a s shown) e.shown e.sound e.number e.world e.agrees e.worn e.most e.answers;
       counted = e.counted;
       within = let lt : c.loop-page.page-index < length c.args.pages.now.items = rw c.deref_mut-page-items.ensures.value at c.loop-page-test.true in omega (arith, lt);
@@ -54,19 +54,19 @@ returns-clause-pages g c = λ hosts slacks m a s shown.
     let u = c.loop-page.invariant.up in
     let all : List Mounted = c.args.pages.now.items in
     let same : length c.loop-page.page-items ≡ length all =
-    same_count _ _ (labels_of c.args.labels.now) _ _ c.args.world.now c.loop-page.world all c.loop-page.page-items c.loop-page.page-index c.loop-page.told.items u c.loop-page.invariant.within in
-    let up = all_up _ _ (labels_of c.args.labels.now) _ _ c.args.world.now c.loop-page.world all c.loop-page.page-items c.loop-page.page-index c.loop-page.told.items
+    same_count _ _ (labels_of c.args.labels.now) _ _ c.args.world.now c.loop-page.world all c.loop-page.page-items c.loop-page.page-index c.loop-page.told.items c.args.journal.now c.loop-page.journal u c.loop-page.invariant.within in
+    let up = all_up _ _ (labels_of c.args.labels.now) _ _ c.args.world.now c.loop-page.world all c.loop-page.page-items c.loop-page.page-index c.loop-page.told.items c.args.journal.now c.loop-page.journal
     u (rw c.deref_mut-page-items.ensures.value at c.loop-page-test.false) hosts slacks m a s shown in
-    other_pages _ _ _ _ _ _ _ _ _ _ _ (sym (written_back c.loop-page.page-items all c.args.pages.now.len (c.args.pages.now.ok.0 ∙ sym same))) up
+    other_pages _ _ _ _ _ _ _ _ _ _ _ _ _ (sym (written_back c.loop-page.page-items all c.args.pages.now.len (c.args.pages.now.ok.0 ∙ sym same))) up
 
 pub returns-clause-shown : goal.returns-clause-shown
 returns-clause-shown g c = λ templates shown.
     let u = c.loop-page.invariant.up in
     let all : List Mounted = c.args.pages.now.items in
     let same : length c.loop-page.page-items ≡ length all =
-    same_count _ _ (labels_of c.args.labels.now) _ _ c.args.world.now c.loop-page.world all c.loop-page.page-items c.loop-page.page-index c.loop-page.told.items u c.loop-page.invariant.within in
+    same_count _ _ (labels_of c.args.labels.now) _ _ c.args.world.now c.loop-page.world all c.loop-page.page-items c.loop-page.page-index c.loop-page.told.items c.args.journal.now c.loop-page.journal u c.loop-page.invariant.within in
     subst (AreShown templates) (sym (written_back c.loop-page.page-items all c.args.pages.now.len (c.args.pages.now.ok.0 ∙ sym same)))
-    (all_shown _ _ (labels_of c.args.labels.now) _ _ c.args.world.now c.loop-page.world all c.loop-page.page-items c.loop-page.page-index c.loop-page.told.items
+    (all_shown _ _ (labels_of c.args.labels.now) _ _ c.args.world.now c.loop-page.world all c.loop-page.page-items c.loop-page.page-index c.loop-page.told.items c.args.journal.now c.loop-page.journal
     u (rw c.deref_mut-page-items.ensures.value at c.loop-page-test.false) templates shown)
 
 pub returns-clause-numbers : goal.returns-clause-numbers
@@ -74,5 +74,5 @@ returns-clause-numbers g c =
     let u = c.loop-page.invariant.up in
     let all : List Mounted = c.args.pages.now.items in
     let same : length c.loop-page.page-items ≡ length all =
-    same_count _ _ (labels_of c.args.labels.now) _ _ c.args.world.now c.loop-page.world all c.loop-page.page-items c.loop-page.page-index c.loop-page.told.items u c.loop-page.invariant.within in
+    same_count _ _ (labels_of c.args.labels.now) _ _ c.args.world.now c.loop-page.world all c.loop-page.page-items c.loop-page.page-index c.loop-page.told.items c.args.journal.now c.loop-page.journal u c.loop-page.invariant.within in
     ap numbers_of (written_back c.loop-page.page-items all c.args.pages.now.len (c.args.pages.now.ok.0 ∙ sym same)) ∙ u.numbers

@@ -1,10 +1,14 @@
 use Rattle.std.proofs.Common.{◌≡◌, ◌++◌, [], List, length, map, arith, refl, ap, subst, ◌∙◌}
+use Rattle.std.specs.Option.{option_map}
 use Rattle.std.proofs.lemmas.List.{length-map}
 use Rattle.sig_computed.specs.Notes.{note_of, IsSettling}
 use Rattle.sig_computed.specs.declared.notes.RunNote.{RunNote}
 use Rattle.sig_effect.proofs.Shared.{agrees_settled, settle_does}
 use Rattle.effect_world.specs.Wholes.{stores_of}
 use Rattle.effect_world.proofs.Shared.{owned_still, settle_done}
+use Rattle.why_model.specs.Facts.{has_run}
+use Rattle.why_model.specs.Records.{with_facts}
+use Rattle.live_why.specs.Views as facts
 use Rattle.live_model.specs.Pages.{asked_of, template_in}
 use Rattle.live_labels.specs.Entries.{note_entry}
 use Rattle.live_labels.specs.Views.{labels_of}
@@ -31,11 +35,13 @@ returns-clause-page g c = λ hosts slacks templates all sound shown.
     (map note_of ns) (map note_of c.update.new.notes.items) c.update.new.graph.state.memos) none (s.settled hosts all sound.kept))
     (s.asked hosts all sound.kept) refl (s.kept hosts all sound.kept) sound in
     let lifted = settle_done hosts slacks _ _ w new [] _ names d refl c.requires.agrees.owned.tables in
-    page_up hosts slacks _ _ (labels_of c.args.labels.now) templates w new c.args.page.now q _ c.args.told.now.items c.tell_news.new.told.items c.update.new.notes.items lifted
+    page_up hosts slacks _ _ (labels_of c.args.labels.now) templates w new c.args.page.now q _ c.args.told.now.items c.tell_news.new.told.items c.args.journal.now c.tell_runs.new.journal
+    c.update.new.notes.items lifted
     (ap (λ n. record (page_of c.args.page.now) { content = n }) (e.page t.lines t.links shown.stands hosts all sound.kept))
     (e.ops t.lines t.links shown.stands hosts all sound.kept)
     (c.in_ok-tell_news.ensures ∙ ap (λ (es : List Entry). es ++ news_of (page_of q) (map op_of c.in_ok-ops.ops.items))
-    (c.in_ok-tell_runs.ensures ∙ (λ i. c.args.told.now.items ++ map (note_entry (c.deref.ensures.value i)) (map note_of (c.deref-2.ensures.value i)))))
+    (c.in_ok-tell_runs.ensures.told ∙ (λ i. c.args.told.now.items ++ map (note_entry (c.deref.ensures.value i)) (map note_of (c.deref-2.ensures.value i)))))
+    (c.in_ok-tell_runs.ensures.noted ∙ ap (λ ns. option_map (with_facts (map has_run (map facts.note_of ns))) c.args.journal.now) c.deref-2.ensures.value)
 
 pub returns-clause-shown : goal.returns-clause-shown
 returns-clause-shown g c = λ templates shown. record { template = shown.template; stands = c.in_ok-ops.ensures.stands _ _ shown.stands }

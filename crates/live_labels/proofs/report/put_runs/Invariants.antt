@@ -1,7 +1,7 @@
 use Rattle.std.proofs.Common.{◌≡◌, ◌++◌, map, take}
 use Rattle.sig_computed.specs.Notes.{note_of}
 use Rattle.live_labels.specs.Entries.{note_entry}
-use Rattle.live_labels.proofs.report.tell_runs.Given as goal
+use Rattle.live_labels.proofs.report.put_runs.Given as goal
 
 -- the runs so far
 abbrev pub invariant-loop-note : goal.invariant-loop-note

@@ -1,7 +1,7 @@
 use Rattle.std.proofs.Common.{◌≡◌, ◌++◌, drop}
 use Rattle.live_labels.specs.Views.{labels_of, KeepsNames}
 use Rattle.live_labels.proofs.Told.{renamed_by, told_by}
-use Rattle.live_labels.proofs.report.tell_all.Given as goal
+use Rattle.live_labels.proofs.report.tell_each.Given as goal
 
 -- what was told so far and what is told of the rest is the whole
 abbrev pub invariant-loop-event : goal.invariant-loop-event

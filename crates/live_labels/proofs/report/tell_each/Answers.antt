@@ -2,7 +2,7 @@ use Rattle.std.proofs.Common.{◌++◌, sym, ap, ◌∙◌}
 use Rattle.std.proofs.lemmas.List.{append-nil, drop_all}
 use Rattle.live_labels.specs.Views.{labels_of}
 use Rattle.live_labels.proofs.Told.{all_rename, all_told, renamed_by, told_by}
-use Rattle.live_labels.proofs.report.tell_all.Goals as goal
+use Rattle.live_labels.proofs.report.tell_each.Goals as goal
 
 pub returns-clause-entries : goal.returns-clause-entries
 returns-clause-entries c = λ ts h.
