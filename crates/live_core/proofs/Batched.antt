@@ -27,6 +27,7 @@ use Rattle.effect_world.specs.Wholes.{whole_of}
 use Rattle.live_cmd.specs.declared.command.Command.{Command}
 use Rattle.live_entries.specs.declared.entry.Entry.{Entry}
 use Rattle.live_entries.specs.declared.refusal.Refusal.TheVariants as refusal
+use Rattle.why_model.specs.Records.{Journal}
 use Rattle.live_model.specs.Machine.{Told, aborting, acted, batch_refusal, committing, is_done_in_batch, reached, setting, setting_by}
 use Rattle.live_labels.specs.declared.labels.Labels.{Labels}
 use Rattle.live_core.specs.declared.machine.Machine.{Machine}
@@ -219,44 +220,44 @@ alone_steps hosts env asked m new es n v alone s =
     subst (λ (o : Option Collected). Steps hosts asked new es (setting_by env (plain_of asked m) (batch_of o) n v)) (sym alone) s
 
 -- an act was done, and another batch is open afterwards
-pub rebatched : (hosts : Hosts) (asked : List HostPlace) (m : Machine) (w : World) (l : Labels) (o : Option Collected) (es : List Entry) (x : plain.World) →
-    Steps hosts asked (with_world m w l) es (acted (plain_of asked m) x) →
-    Steps hosts asked (record (with_world m w l) { batch = o }) es (acted (record (plain_of asked m) { batch = batch_of o }) x)
-rebatched hosts asked m w l o es x s = record {
+pub rebatched : (hosts : Hosts) (asked : List HostPlace) (m : Machine) (w : World) (l : Labels) (j : Option Journal) (o : Option Collected) (es : List Entry) (x : plain.World) →
+    Steps hosts asked (with_world m w l j) es (acted (plain_of asked m) x) →
+    Steps hosts asked (record (with_world m w l j) { batch = o }) es (acted (record (plain_of asked m) { batch = batch_of o }) x)
+rebatched hosts asked m w l j o es x s = record {
   step = ap (λ (t : Told). reached (record (t.machine) { batch = batch_of o }) t.entries) s.step;
   sound = s.sound;
 }
 
 -- a batch is open, which the cell joins
-pub batched_steps : (hosts : Hosts) (env : plain.Environment) (asked : List HostPlace) (m : Machine) (w : World) (l : Labels) (es : List Entry) (n : ℕ) (v : Value) (b c : Collected) →
+pub batched_steps : (hosts : Hosts) (env : plain.Environment) (asked : List HostPlace) (m : Machine) (w : World) (l : Labels) (j : Option Journal) (es : List Entry) (n : ℕ) (v : Value) (b c : Collected) →
     m.batch ≡ Some b → c.changed ≡ joined_by env.slacks (standing m.world.graph.state.signals n) n v b.changed →
-    Steps hosts asked (with_world m w l) es (acted (plain_of asked m) (set_quietly env n v (whole_of asked m.world))) →
-    Steps hosts asked (record (with_world m w l) { batch = Some c }) es (setting env (plain_of asked m) n v)
-batched_steps hosts env asked m w l es n v b c found is s =
-    subst (λ (t : Told). Steps hosts asked (record (with_world m w l) { batch = Some c }) es t)
+    Steps hosts asked (with_world m w l j) es (acted (plain_of asked m) (set_quietly env n v (whole_of asked m.world))) →
+    Steps hosts asked (record (with_world m w l j) { batch = Some c }) es (setting env (plain_of asked m) n v)
+batched_steps hosts env asked m w l j es n v b c found is s =
+    subst (λ (t : Told). Steps hosts asked (record (with_world m w l j) { batch = Some c }) es t)
     ((λ i. acted (record (plain_of asked m) { batch = Some (is i) }) (set_quietly env n v (whole_of asked m.world)))
     ∙ ap (λ (o : Option Collected). setting_by env (plain_of asked m) (batch_of o) n v) (sym found))
-    (rebatched hosts asked m w l (Some c) es (set_quietly env n v (whole_of asked m.world)) s)
+    (rebatched hosts asked m w l j (Some c) es (set_quietly env n v (whole_of asked m.world)) s)
 
 -- the batch that was open is committed
-pub committed_steps : (hosts : Hosts) (env : plain.Environment) (asked : List HostPlace) (m : Machine) (w : World) (l : Labels) (o before : Option Collected) (es : List Entry) (b : Collected) →
-    before ≡ m.batch → before ≡ Some b → o ≡ None → Steps hosts asked (with_world m w l) es (acted (plain_of asked m) (commit env b.changed (whole_of asked m.world))) →
-    Steps hosts asked (record (with_world m w l) { batch = o }) es (committing env (plain_of asked m) (batch_of m.batch))
-committed_steps hosts env asked m w l o before es b was found over s =
-    subst (λ (t : Told). Steps hosts asked (record (with_world m w l) { batch = o }) es t)
+pub committed_steps : (hosts : Hosts) (env : plain.Environment) (asked : List HostPlace) (m : Machine) (w : World) (l : Labels) (j : Option Journal) (o before : Option Collected) (es : List Entry) (b : Collected) →
+    before ≡ m.batch → before ≡ Some b → o ≡ None → Steps hosts asked (with_world m w l j) es (acted (plain_of asked m) (commit env b.changed (whole_of asked m.world))) →
+    Steps hosts asked (record (with_world m w l j) { batch = o }) es (committing env (plain_of asked m) (batch_of m.batch))
+committed_steps hosts env asked m w l j o before es b was found over s =
+    subst (λ (t : Told). Steps hosts asked (record (with_world m w l j) { batch = o }) es t)
     ((λ i. acted (record (plain_of asked m) { batch = batch_of (over i) }) (commit env b.changed (whole_of asked m.world)))
     ∙ ap (λ (x : Option Collected). committing env (plain_of asked m) (batch_of x)) (sym found ∙ was))
-    (rebatched hosts asked m w l o es (commit env b.changed (whole_of asked m.world)) s)
+    (rebatched hosts asked m w l j o es (commit env b.changed (whole_of asked m.world)) s)
 
 -- or it is aborted
-pub aborted_steps : (hosts : Hosts) (asked : List HostPlace) (m : Machine) (w : World) (l : Labels) (o before : Option Collected) (es : List Entry) (b : Collected) →
-    before ≡ m.batch → before ≡ Some b → o ≡ None → Steps hosts asked (with_world m w l) es (acted (plain_of asked m) (abort b.changed (whole_of asked m.world))) →
-    Steps hosts asked (record (with_world m w l) { batch = o }) es (aborting (plain_of asked m) (batch_of m.batch))
-aborted_steps hosts asked m w l o before es b was found over s =
-    subst (λ (t : Told). Steps hosts asked (record (with_world m w l) { batch = o }) es t)
+pub aborted_steps : (hosts : Hosts) (asked : List HostPlace) (m : Machine) (w : World) (l : Labels) (j : Option Journal) (o before : Option Collected) (es : List Entry) (b : Collected) →
+    before ≡ m.batch → before ≡ Some b → o ≡ None → Steps hosts asked (with_world m w l j) es (acted (plain_of asked m) (abort b.changed (whole_of asked m.world))) →
+    Steps hosts asked (record (with_world m w l j) { batch = o }) es (aborting (plain_of asked m) (batch_of m.batch))
+aborted_steps hosts asked m w l j o before es b was found over s =
+    subst (λ (t : Told). Steps hosts asked (record (with_world m w l j) { batch = o }) es t)
     ((λ i. acted (record (plain_of asked m) { batch = batch_of (over i) }) (abort b.changed (whole_of asked m.world)))
     ∙ ap (λ (x : Option Collected). aborting (plain_of asked m) (batch_of x)) (sym found ∙ was))
-    (rebatched hosts asked m w l o es (abort b.changed (whole_of asked m.world)) s)
+    (rebatched hosts asked m w l j o es (abort b.changed (whole_of asked m.world)) s)
 
 -- ---- what is left
 
@@ -277,6 +278,7 @@ ready_batched m o r h = record {
   paged = r.paged;
   meant = r.meant;
   templates = r.templates;
+  handled = r.handled;
   shown = r.shown;
   pages = r.pages;
   batch = h;

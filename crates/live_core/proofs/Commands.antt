@@ -36,6 +36,8 @@ use Rattle.live_entries.specs.declared.refusal.Refusal.TheVariants as refusal
 use Rattle.live_model.specs.declared.names.Kind.{Kind}
 use Rattle.live_model.specs.declared.names.Kind.TheVariants as kind
 use Rattle.live_model.specs.declared.names.Need.TheVariants as need
+use Rattle.why_model.specs.Records.{Journal}
+use Rattle.live_model.specs.Journals.{noting}
 use Rattle.live_model.specs.Labels as called
 use Rattle.live_model.specs.Labels.{labels_after}
 use Rattle.live_model.specs.Links.{recipe_of}
@@ -51,7 +53,7 @@ use Rattle.live_pages.specs.Updates.{AreShown, ArePages, AreTemplates, Settles}
 use Rattle.live_pages.specs.Views.{page_of, template_of}
 use Rattle.live_pages.proofs.Shared.{pages_filtered, pages_kept, plain_filtered, shown_filtered}
 use Rattle.live_core.specs.declared.machine.Machine.{Machine}
-use Rattle.live_core.specs.Consistency.{is_of_kind, AreMeant, HasRoomyBatch, IsReady, Leaves, Steps}
+use Rattle.live_core.specs.Consistency.{is_of_kind, AreHandled, AreMeant, HasRoomyBatch, IsReady, Leaves, Steps}
 use Rattle.live_core.specs.Views.{plain_of}
 use Rattle.live_core.proofs.Names.{given_below, meant_still}
 use Rattle.live_core.proofs.OfKind.{kept_kind}
@@ -102,35 +104,41 @@ every P (n ∷ ns) all (suc k) d lt = every P ns all.1 k d (omega (arith, lt))
 
 -- ---- acts that are told
 
--- what is told of events, each by the labels of its moment, and what is called otherwise after them
-pub record TellsBy (before after : Labels) (es : List Event) (tells : List Entry) : Type 0 where
+-- what is told of events, each by the labels of its moment, what is called otherwise after them, and what is noted
+pub record TellsBy (before after : Labels) (first last : Option Journal) (es : List Event) (tells : List Entry) : Type 0 where
   pub entries : (ts : List told.Event) → AreTold es ts → tells ≡ entries_of (labels_of before) ts
   pub labels : (ts : List told.Event) → AreTold es ts → labels_of after ≡ labels_after ts (labels_of before)
+  pub noted : (ts : List told.Event) → AreTold es ts → last ≡ noting ts first
   pub names : KeepsNames before after
 
 -- the events as they were handed in
-pub tells_by : (before after : Labels) (es xs : List Event) (entries : List Entry) → xs ≡ es → ((ts : List told.Event) → AreTold xs ts → entries ≡ entries_of (labels_of before) ts) →
-    ((ts : List told.Event) → AreTold xs ts → labels_of after ≡ labels_after ts (labels_of before)) → KeepsNames before after → TellsBy before after es entries
-tells_by before after es xs entries same told_as called_as names = record {
+pub tells_by : (before after : Labels) (first last : Option Journal) (es xs : List Event) (entries : List Entry) → xs ≡ es →
+    ((ts : List told.Event) → AreTold xs ts → entries ≡ entries_of (labels_of before) ts) →
+    ((ts : List told.Event) → AreTold xs ts → labels_of after ≡ labels_after ts (labels_of before)) →
+    ((ts : List told.Event) → AreTold xs ts → last ≡ noting ts first) → KeepsNames before after → TellsBy before after first last es entries
+tells_by before after first last es xs entries same told_as called_as noted_as names = record {
   entries = λ ts h. told_as ts (subst (λ (ys : List Event). AreTold ys ts) (sym same) h);
   labels = λ ts h. called_as ts (subst (λ (ys : List Event). AreTold ys ts) (sym same) h);
+  noted = λ ts h. noted_as ts (subst (λ (ys : List Event). AreTold ys ts) (sym same) h);
   names = names;
 }
 
--- a machine whose world changed, with effects that are called otherwise
-abbrev pub with_world : Machine → World → Labels → Machine
-with_world m w l = record m { world = w; labels = l }
+-- a machine whose world changed, with effects that are called otherwise, and what was noted of it
+abbrev pub with_world : Machine → World → Labels → Option Journal → Machine
+with_world m w l j = record m { world = w; labels = l; journal = j }
 
 -- an act that was done
-pub acts_steps : (hosts : Hosts) (asked later : List HostPlace) (m : Machine) (w : World) (l : Labels) (before es : List Event) (act other : told.World → told.World) (entries : List Entry) →
-    before ≡ [] → Does hosts asked later m.world w before es act → act ≡ other → TellsBy m.labels l es entries →
-    Steps hosts later (with_world m w l) entries (acted (plain_of asked m) (other (whole_of asked m.world)))
-acts_steps hosts asked later m w l before es act other entries none d same by =
+pub acts_steps : (hosts : Hosts) (asked later : List HostPlace) (m : Machine) (w : World) (l : Labels) (j : Option Journal) (before es : List Event)
+    (act other : told.World → told.World) (entries : List Entry) → before ≡ [] → Does hosts asked later m.world w before es act → act ≡ other →
+    TellsBy m.labels l m.journal j es entries →
+    Steps hosts later (with_world m w l j) entries (acted (plain_of asked m) (other (whole_of asked m.world)))
+acts_steps hosts asked later m w l j before es act other entries none d same by =
     let e : Does hosts asked later m.world w [] es act = subst (λ (b : List Event). Does hosts asked later m.world w b es act) none d in
     let ts : List told.Event = (act (whole_of asked m.world)).told in
     let each : AreTold es ts = subst (λ (xs : List Event). AreTold xs ts) (sym e.told.behind) e.told.each in
     record {
-      step = (λ i. reached (record (plain_of later (with_world m w l)) { labels = by.labels ts each i; world = e.whole i }) (by.entries ts each i))
+      step = (λ i. reached (record (plain_of later (with_world m w l j)) { labels = by.labels ts each i; world = e.whole i; journal = by.noted ts each i })
+          (by.entries ts each i))
           ∙ ap (λ (f : told.World → told.World). acted (plain_of asked m) (f (whole_of asked m.world))) same;
       sound = d.sound;
     }
@@ -144,10 +152,16 @@ none_labels : (l : called.Labels) (ts : List told.Event) → AreTold [] ts → l
 none_labels l [] h = refl
 none_labels l (t ∷ ts) h = absurd h
 
-pub untold : (l : Labels) (es : List Entry) → es ≡ [] → TellsBy l l [] es
-untold l es none = record {
+none_noted : (j : Option Journal) (ts : List told.Event) → AreTold [] ts → j ≡ noting ts j
+none_noted None [] h = refl
+none_noted (Some j) [] h = refl
+none_noted j (t ∷ ts) h = absurd h
+
+pub untold : (l : Labels) (j : Option Journal) (es : List Entry) → es ≡ [] → TellsBy l l j j [] es
+untold l j es none = record {
   entries = λ ts h. none ∙ none_entries (labels_of l) ts h;
   labels = λ ts h. none_labels (labels_of l) ts h;
+  noted = λ ts h. none_noted j ts h;
   names = record { signals = refl; owners = refl; pages = refl; watchers = refl };
 }
 
@@ -211,10 +225,12 @@ stays_settled v w s = record {
   };
 }
 
--- names and templates stay, and what isn't an effect is called as before
+-- names, templates and handlers stay, and what isn't an effect is called as before
 pub record KeepsMeant (m new : Machine) : Type 0 where
   pub names : new.names ≡ m.names
   pub templates : new.templates ≡ m.templates
+  pub handlers : new.handlers ≡ m.handlers
+  pub scripts : new.scripts ≡ m.scripts
   pub labels : KeepsNames m.labels new.labels
 
 pub ready_changed : (m new : Machine) → IsReady m → KeepsMeant m new → Stays m.world new.world → AreShown (map template_of m.templates.items) new.pages.items →
@@ -226,29 +242,30 @@ ready_changed m new r keeps stays shown pages batch = record {
       (meant_still m.world new.world _ m.names stays.given
       (λ k x h. kept_kind k (standing m.world.graph.state.signals x) (standing new.world.graph.state.signals x) (stays.kinds.each x) h) r.meant);
   templates = subst (λ v. AreTemplates v.items) (sym keeps.templates) r.templates;
+  handled = subst (λ x. x) (λ i. AreHandled (sym keeps.handlers i) (sym keeps.scripts i).items) r.handled;
   shown = subst (λ v. AreShown (map template_of v.items) new.pages.items) (sym keeps.templates) shown;
   pages = pages;
   batch = batch;
 }
 
 -- what is left by an act that leaves the tables, where the batch is this one afterwards
-pub leaves_batched : (asked later : List HostPlace) (rules : ℕ) (m : Machine) (w : World) (l : Labels) (b : Option Collected) → IsReady m → KeepsNames m.labels l →
+pub leaves_batched : (asked later : List HostPlace) (rules : ℕ) (m : Machine) (w : World) (l : Labels) (j : Option Journal) (b : Option Collected) → IsReady m → KeepsNames m.labels l →
     Stays m.world w → w.tables ≡ m.world.tables → HasRoomyBatch w.graph.state.signals b → (Agrees asked m.world → Agrees later w) →
     (AreRuled rules m.world.graph.state.signals → AreRuled rules w.graph.state.signals) →
-    weight w ≤ weight m.world + 2 ^ 80 → Leaves asked later rules m (record (with_world m w l) { batch = b })
-leaves_batched asked later rules m w l b r keeps stays tables batch agrees ruled few = record {
-  ready = ready_changed m (record (with_world m w l) { batch = b }) r (record { names = refl; templates = refl; labels = keeps }) stays r.shown
+    weight w ≤ weight m.world + 2 ^ 80 → Leaves asked later rules m (record (with_world m w l j) { batch = b })
+leaves_batched asked later rules m w l j b r keeps stays tables batch agrees ruled few = record {
+  ready = ready_changed m (record (with_world m w l j) { batch = b }) r (record { names = refl; templates = refl; handlers = refl; scripts = refl; labels = keeps }) stays r.shown
       (pages_kept m.world w m.pages.items m.pages.items refl (ap (λ t. t.pages.items) tables) (ap (λ t. t.pages_made) tables) r.pages) batch;
   holds = λ h. record { agrees = agrees h.agrees; ruled = ruled h.ruled };
   weight = few;
 }
 
 -- so it is where the batch stays
-pub leaves_acted : (asked later : List HostPlace) (rules : ℕ) (m : Machine) (w : World) (l : Labels) → IsReady m → KeepsNames m.labels l → Stays m.world w →
+pub leaves_acted : (asked later : List HostPlace) (rules : ℕ) (m : Machine) (w : World) (l : Labels) (j : Option Journal) → IsReady m → KeepsNames m.labels l → Stays m.world w →
     w.tables ≡ m.world.tables → HasRoomyBatch w.graph.state.signals m.batch → (Agrees asked m.world → Agrees later w) →
     (AreRuled rules m.world.graph.state.signals → AreRuled rules w.graph.state.signals) →
-    weight w ≤ weight m.world + 2 ^ 80 → Leaves asked later rules m (with_world m w l)
-leaves_acted asked later rules m w l r keeps stays tables batch agrees ruled few = leaves_batched asked later rules m w l m.batch r keeps stays tables batch agrees ruled few
+    weight w ≤ weight m.world + 2 ^ 80 → Leaves asked later rules m (with_world m w l j)
+leaves_acted asked later rules m w l j r keeps stays tables batch agrees ruled few = leaves_batched asked later rules m w l j m.batch r keeps stays tables batch agrees ruled few
 
 -- what is left by one that may end pages, which are dropped then
 pub leaves_ended : (asked later : List HostPlace) (rules : ℕ) (m new : Machine) → IsReady m → KeepsMeant m new → Stays m.world new.world →

@@ -83,6 +83,7 @@ leaves_signal asked rules m new w n k id labels r off number named watchers page
             (sym (named.names ∙ ap (λ (x : ℕ). m.names ++ (n, record { kind = k; number = x }) ∷ []) number))
             (meant_made m.world w _ m.names n k off given beside here r.meant);
         templates = r.templates;
+        handled = r.handled;
         shown = r.shown;
         pages = pages_kept m.world w m.pages.items m.pages.items refl stays.pages stays.paged r.pages;
         batch = roomy_none w.graph.state.signals m.batch alone;
@@ -143,6 +144,7 @@ leaves_other asked rules m new w n k id labels r any named watchers pages stays 
             (meant_still m.world w _ m.names (ap (λ s. s.graph.given) signals)
             (λ j x h. ap (λ s. is_of_kind j (standing s.graph.state.signals x)) signals ∙ h) r.meant));
         templates = r.templates;
+        handled = r.handled;
         shown = r.shown;
         pages = pages_kept m.world w m.pages.items m.pages.items refl stays.pages stays.paged r.pages;
         batch = roomy_same m.world.graph.state.signals w.graph.state.signals m.batch (ap (λ s. s.graph.state.signals) signals) r.batch;
@@ -200,6 +202,7 @@ leaves_template asked rules m new n t r parts names templates read =
             (meant_other m.world (length new.templates.items) m.names n kind.Template (length m.templates.items) refl (λ s. refl) (λ e. omega (arith, count))
             (meant_more m.world (length m.templates.items) (length new.templates.items) m.names (omega (arith, count)) r.meant));
         templates = subst AreTemplates (sym templates) (read_more m.templates.items t r.templates read);
+        handled = r.handled;
         shown = subst (λ (ts : List Template). AreShown ts m.pages.items) (sym seen) (older_shown (map template_of m.templates.items) (template_of t) m.pages.items r.shown);
         pages = r.pages;
         batch = r.batch;

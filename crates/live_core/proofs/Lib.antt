@@ -5,5 +5,6 @@ mod Commands
 mod Batched
 mod Creations
 mod Mounts
+mod Handled
 mod Watchers
 pub mod Shared

@@ -19,6 +19,7 @@ use Rattle.live_entries.specs.declared.entry.Entry.{Entry}
 use Rattle.live_entries.specs.declared.entry.Entry.TheVariants as entry
 use Rattle.live_entries.specs.declared.refusal.Refusal.TheVariants as refusal
 use Rattle.live_model.specs.declared.names.Kind.TheVariants as kind
+use Rattle.why_model.specs.Records.{Journal}
 use Rattle.live_model.specs.Labels as called
 use Rattle.live_model.specs.Machine as plain
 use Rattle.live_model.specs.Machine.{acted_on_pages, after_turns, flushing, mounted, reached}
@@ -51,8 +52,8 @@ refused_steps hosts env asked m told_first es refused by is sound = record {
 
 -- pages were brought up to date behind what was told
 pub brought_steps : (hosts : Hosts) (env : told.Environment) (asked later : List HostPlace) (m new : Machine) (told_first pages es : List Entry) (refused : Bool) → false ≡ refused →
-    AreUpdated env (plain_of [] m) (labels_of m.labels) asked later m.world new.world m.pages.items new.pages.items pages →
-    new ≡ record m { world = new.world; pages = new.pages } → es ≡ told_first ++ pages → IsSound hosts later new.world →
+    AreUpdated env (plain_of [] m) (labels_of m.labels) asked later m.world new.world m.pages.items new.pages.items pages m.journal new.journal →
+    new ≡ record m { world = new.world; journal = new.journal; pages = new.pages } → es ≡ told_first ++ pages → IsSound hosts later new.world →
     Steps hosts later new es (after_turns env refused (reached (plain_of asked m) told_first))
 brought_steps hosts env asked later m new told_first pages es refused by up parts is sound = record {
   step =
@@ -91,20 +92,22 @@ named_behind m middle new same kept =
     ∙ ap (λ (x : Machine). record m { names = new.names; labels = new.labels; pages = x.pages }) (sym kept)
 
 -- a page was made, and stands where it is to
-pub mount_steps : (hosts : Hosts) (env : told.Environment) (asked later : List HostPlace) (m new : Machine) (w v : World) (n : List ℕ) (t id : ℕ) (inside : Option ℕ) (page : live.Page) (es : List Entry) →
-    IsMounted env (labels_of m.labels) (map template_of m.templates.items) asked later m.world w n t (page_in (standing_page page)) [] es → id ≡ m.world.tables.pages_made →
+pub mount_steps : (hosts : Hosts) (env : told.Environment) (asked later : List HostPlace) (m new : Machine) (w v : World) (j : Option Journal) (n : List ℕ) (t id : ℕ) (inside : Option ℕ)
+    (page : live.Page) (es : List Entry) →
+    IsMounted env (labels_of m.labels) (map template_of m.templates.items) asked later m.world w n t (page_in (standing_page page)) [] es m.journal j → id ≡ m.world.tables.pages_made →
     whole_of later v ≡ at_rest (with_new_page inside (whole_of later w)) → IsSound hosts later v →
-    new ≡ record m { names = new.names; labels = new.labels; world = v; pages = new.pages } →
+    new ≡ record m { names = new.names; labels = new.labels; world = v; journal = j; pages = new.pages } →
     new.names ≡ m.names ++ (n, record { kind = kind.Page; number = id }) ∷ [] →
     labels_of new.labels ≡ record (labels_of m.labels) { pages = m.labels.pages.items ++ n ∷ [] } →
     new.pages.items ≡ m.pages.items ++ (record { name = n; number = id; template = t; page = page }) ∷ [] →
     Steps hosts later new es (mounted env (plain_of asked m) n t inside)
-mount_steps hosts env asked later m new w v n t id inside page es up number whole sound parts names labels pages =
+mount_steps hosts env asked later m new w v j n t id inside page es up number whole sound parts names labels pages =
     subst (λ (x : Machine). Steps hosts later x es (mounted env (plain_of asked m) n t inside)) (sym parts) (record {
       step = (λ i. reached (record (plain_of asked m) {
         names = (names ∙ ap (λ (x : ℕ). m.names ++ (n, record { kind = kind.Page; number = x }) ∷ []) number) i;
         labels = (labels ∙ ap (λ (l : called.Labels). record l { pages = l.pages ++ n ∷ [] }) up.labels) i;
         world = (whole ∙ ap (λ (x : told.World). at_rest (with_new_page inside x)) up.world) i;
+        journal = up.noted i;
         pages = (ap (map page_of) pages ∙ map_append page_of m.pages.items ((record { name = n; number = id; template = t; page = page }) ∷ [])
             ∙ (λ j. map page_of m.pages.items ++ (record { name = n; number = number j; template = t; content = up.page j }) ∷ [])) i;
       }) ((up.told ∙ ap (λ (bs : List ℕ). (plain.settling env (plain_of asked m) (plain.template_reads env (plain_of asked m) t)).entries
@@ -113,15 +116,15 @@ mount_steps hosts env asked later m new w v n t id inside page es up number whol
     })
 
 -- what a making of a page leaves
-pub leaves_mounted : (asked later : List HostPlace) (rules : ℕ) (m new : Machine) (w v : World) (n : List ℕ) (id : ℕ) (p : Mounted) → IsReady m →
-    new ≡ record m { names = new.names; labels = new.labels; world = v; pages = new.pages } →
+pub leaves_mounted : (asked later : List HostPlace) (rules : ℕ) (m new : Machine) (w v : World) (j : Option Journal) (n : List ℕ) (id : ℕ) (p : Mounted) → IsReady m →
+    new ≡ record m { names = new.names; labels = new.labels; world = v; journal = j; pages = new.pages } →
     new.names ≡ m.names ++ (n, record { kind = kind.Page; number = id }) ∷ [] →
     labels_of new.labels ≡ record (labels_of m.labels) { pages = m.labels.pages.items ++ n ∷ [] } →
     new.pages.items ≡ m.pages.items ++ p ∷ [] → (inside : Option ℕ) → whole_of later v ≡ at_rest (with_new_page inside (whole_of later w)) →
     stores_of v ≡ stores_of w → Settles m.world w → p.number ≡ m.world.tables.pages_made → IsShown (map template_of m.templates.items) p →
     length m.world.tables.pages.items < MOST_PAGES → Agrees later v → w.graph.state.worn ≤ m.world.graph.state.worn + 2 ^ 64 →
     Leaves asked later rules m new
-leaves_mounted asked later rules m new w v n id p r parts names labels pages inside whole signals settled number shown room agrees worn =
+leaves_mounted asked later rules m new w v j n id p r parts names labels pages inside whole signals settled number shown room agrees worn =
     let made : v.tables.pages_made ≡ m.world.tables.pages_made + 1 =
     ap (λ (x : told.World). x.made.pages) whole ∙ ap (λ t. t.pages_made + 1) settled.tables in
     let live : v.tables.pages.items ≡ m.world.tables.pages.items ++ m.world.tables.pages_made ∷ [] =
@@ -136,6 +139,7 @@ leaves_mounted asked later rules m new w v n id p r parts names labels pages ins
             (meant_other v _ m.names n kind.Page id refl (λ s. refl) (λ t. absurd cc)
             (meant_still m.world v _ m.names graph (λ k x h. ap (λ g. is_of_kind k (standing g x)) stands ∙ h) r.meant));
         templates = r.templates;
+        handled = r.handled;
         shown = subst (AreShown (map template_of m.templates.items)) (sym pages) (shown_more (map template_of m.templates.items) m.pages.items p r.shown shown);
         pages = subst (ArePages v) (sym pages) (pages_more m.world v m.pages.items p number live made room r.pages);
         batch = roomy_same m.world.graph.state.signals v.graph.state.signals m.batch stands r.batch;
@@ -149,13 +153,13 @@ leaves_mounted asked later rules m new w v n id p r parts names labels pages ins
 -- ---- pages from scratch
 
 -- what a page's template shows from scratch is told
-pub scratch_steps : (hosts : Hosts) (env : told.Environment) (asked later : List HostPlace) (m : Machine) (w : World) (n : List ℕ) (k : ℕ) (p : Mounted) (bytes : List ℕ)
+pub scratch_steps : (hosts : Hosts) (env : told.Environment) (asked later : List HostPlace) (m : Machine) (w : World) (j : Option Journal) (n : List ℕ) (k : ℕ) (p : Mounted) (bytes : List ℕ)
     (runs es : List Entry) → plain.page_at (map page_of m.pages.items) k ≡ Some (page_of p) →
-    IsScratched env (labels_of m.labels) (map template_of m.templates.items) asked later m.world w p.template bytes [] runs →
+    IsScratched env (labels_of m.labels) (map template_of m.templates.items) asked later m.world w p.template bytes [] runs m.journal j →
     es ≡ runs ++ entry.Scratch n bytes ∷ [] → IsSound hosts later w →
-    Steps hosts later (record m { world = w }) es (plain.scratching env (plain_of asked m) n (plain.page_at (map page_of m.pages.items) k))
-scratch_steps hosts env asked later m w n k p bytes runs es found up is sound = record {
-  step = (λ i. reached (record (plain_of asked m) { labels = up.labels i; world = up.world i }) ((is ∙ (λ j. up.told j ++ entry.Scratch n (up.html j) ∷ [])) i))
+    Steps hosts later (record m { world = w; journal = j }) es (plain.scratching env (plain_of asked m) n (plain.page_at (map page_of m.pages.items) k))
+scratch_steps hosts env asked later m w j n k p bytes runs es found up is sound = record {
+  step = (λ i. reached (record (plain_of asked m) { labels = up.labels i; world = up.world i; journal = up.noted i }) ((is ∙ (λ j. up.told j ++ entry.Scratch n (up.html j) ∷ [])) i))
       ∙ ap (plain.scratching env (plain_of asked m) n) (sym found);
   sound = sound;
 }

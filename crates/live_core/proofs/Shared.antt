@@ -2,3 +2,5 @@
 
 -- where neither answers
 pub use Rattle.live_core.proofs.Rightly.{neither}
+-- as many handlers are seen as there are
+pub use Rattle.live_core.proofs.Handled.{handlers_count}

@@ -45,7 +45,7 @@ leaves_watched asked rules m w n f r graph made whole agrees =
     let stays : Stays m.world w = stays_watched asked m.world w n f graph made whole in
     record {
       ready = ready_changed m (record m { world = w }) r
-          (record { names = refl; templates = refl; labels = record { signals = refl; owners = refl; pages = refl; watchers = refl } }) stays r.shown
+          (record { names = refl; templates = refl; handlers = refl; scripts = refl; labels = record { signals = refl; owners = refl; pages = refl; watchers = refl } }) stays r.shown
           (pages_kept m.world w m.pages.items m.pages.items refl (ap (λ (x : told.World). x.pages) whole) stays.pages r.pages)
           (roomy_same m.world.graph.state.signals w.graph.state.signals m.batch (ap (λ (g : Seen). g.state.signals) graph) r.batch);
       holds = λ h. record { agrees = agrees h.agrees; ruled = subst (λ (g : Seen). AreRuled rules g.state.signals) (sym graph) h.ruled };
@@ -70,6 +70,7 @@ leaves_watcher asked rules m new w n id r named graph made live paged effects ag
             (meant_still m.world w _ m.names (ap (λ (g : Seen). g.given) graph)
             (λ k x h. ap (λ (g : Seen). is_of_kind k (standing g.state.signals x)) graph ∙ h) r.meant));
         templates = r.templates;
+        handled = r.handled;
         shown = r.shown;
         pages = pages_kept m.world w m.pages.items m.pages.items refl live paged r.pages;
         batch = roomy_same m.world.graph.state.signals w.graph.state.signals m.batch (ap (λ (g : Seen). g.state.signals) graph) r.batch;

@@ -1,7 +1,7 @@
 -- What holds of a machine's parts between two commands.
 use Rattle.std.specs.Prelude.{◌≡◌, ◌≤◌, ◌<◌, ◌+◌, ◌*◌, ◌^◌, ℕ, Bool, true, false, not, List, [], length, map, Option, Some, None}
 use Rattle.std.specs.Prelude.{nat_eq}
-use Rattle.std.specs.List.{IsDistinct}
+use Rattle.std.specs.List.{AllByRecursion, IsDistinct}
 use Rattle.std.specs.Map.{keys_of}
 use Rattle.signal_model.specs.Recipes.{Hosts}
 use Rattle.signal_model.specs.Signals.{Signals, Stands, is_computed, is_in, is_there, standing, is_cell}
@@ -10,9 +10,12 @@ use Rattle.sig_host.specs.Hosts.{HostPlace, most_asked}
 use Rattle.sig_nodes.specs.States.{is_given}
 use Rattle.sig_state.specs.Batches.{Collected}
 use Rattle.sig_effect.specs.Stores.{AreRuled}
+use Rattle.effect_tables.specs.Scripts.{IsFitting}
+use Rattle.effect_tables.specs.declared.effect.Script.{Script}
 use Rattle.effect_world.specs.declared.world.World.{World}
 use Rattle.effect_world.specs.Stores.{Agrees, IsSound}
 use Rattle.effect_world.specs.Costs.{weight}
+use Rattle.event_model.specs.declared.awaited.Awaited.{Awaited}
 use Rattle.live_cmd.specs.declared.command.Command.{Command}
 use Rattle.live_entries.specs.declared.entry.Entry.{Entry}
 use Rattle.live_model.specs.declared.names.Kind.{Kind}
@@ -54,13 +57,19 @@ abbrev pub HasRoomyBatch : Signals → Option Collected → Type 0
 HasRoomyBatch w None = Unit {0}
 HasRoomyBatch w (Some b) = IsRoomy w b
 
--- Each watcher and each page that was made has a name, names stand for what was made, the templates were read, the pages are pages that
--- stand on them, and a batch that is open has room for what may be changed in it.
+-- each handler has a script, whose places stand for what there is
+pub record AreHandled (waiting : List Awaited) (scripts : List Script) : Type 0 where
+  pub many : length waiting ≡ length scripts
+  pub fits : AllByRecursion IsFitting scripts
+
+-- Each watcher and each page that was made has a name, names stand for what was made, the templates were read, the handlers have scripts, the pages
+-- are pages that stand on the templates, and a batch that is open has room for what may be changed in it.
 pub record IsReady (m : Machine) : Type 0 where
   pub watchers : m.world.watchers.made ≡ length m.labels.watchers.items
   pub paged : m.world.tables.pages_made ≡ length m.labels.pages.items
   pub meant : AreMeant m.world (length m.templates.items) m.names
   pub templates : AreTemplates m.templates.items
+  pub handled : AreHandled m.handlers m.scripts.items
   pub shown : AreShown (map template_of m.templates.items) m.pages.items
   pub pages : ArePages m.world m.pages.items
   pub batch : HasRoomyBatch m.world.graph.state.signals m.batch

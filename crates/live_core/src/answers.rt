@@ -1,5 +1,5 @@
 // What is told of signals and watchers.
-ghost use Rattle.std.specs.Prelude.{◌≡◌, ◌+◌, ◌∷◌, ◌++◌, ◌<◌, ◌≤◌, ◌^◌, ℕ, [], List, IfOk, IfErr, OnOk};
+ghost use Rattle.std.specs.Prelude.{◌≡◌, ◌+◌, ◌∷◌, ◌<◌, ◌≤◌, ◌^◌, ℕ, [], List, IfOk, IfErr, OnOk};
 ghost use Rattle.signal_model.specs.Recipes.{Hosts};
 ghost use Rattle.sig_host.specs.Hosts.{HostPlace, most_asked};
 ghost use Rattle.sig_nodes.specs.Answers.{mark_meant};
@@ -31,16 +31,6 @@ pub(crate) fn one(alloc: Global, entry: Entry) -> Result<Vec<Entry>, NoMemory>
     let mut entries = Vec::new(alloc);
     entries.push(entry)?;
     Ok(entries)
-}
-
-/// Puts entries behind others.
-pub(crate) fn append(told: &mut Vec<Entry>, more: Vec<Entry>) -> Result<(), NoMemory>
-    ensures { OnOk result (told.new.items ≡ told.old.items ++ more.items) }
-{
-    for entry in more {
-        told.push(entry)?;
-    }
-    Ok(())
 }
 
 // A mark, as it is told.
@@ -90,7 +80,7 @@ impl Machine {
         let mut events = Vec::new(self.alloc);
         let outcome = self.world.ask(shelf, signal, &mut events)?;
         let _count = events.len();
-        let mut told = tell_all(self.alloc, &mut self.labels, &events)?;
+        let mut told = tell_all(self.alloc, &mut self.labels, &mut self.journal, &events)?;
         told.push(Entry::Outcome(name, outcome))?;
         Ok(told)
     }
@@ -196,6 +186,7 @@ impl Machine {
             shelf,
             &self.templates,
             &self.labels,
+            &mut self.journal,
             template,
             &mut told,
         )?;

@@ -47,7 +47,7 @@ impl Machine {
     {
         let mut events = Vec::new(self.alloc);
         let _done = self.world.change_cell(rules, cell, value, &mut events)?;
-        let told = tell_all(self.alloc, &mut self.labels, &events)?;
+        let told = tell_all(self.alloc, &mut self.labels, &mut self.journal, &events)?;
         Ok(told)
     }
 
@@ -78,7 +78,7 @@ impl Machine {
         };
         let mut events = Vec::new(self.alloc);
         let _done = self.world.set_in(batch, rules, cell, value, &mut events)?;
-        let told = tell_all(self.alloc, &mut self.labels, &events)?;
+        let told = tell_all(self.alloc, &mut self.labels, &mut self.journal, &events)?;
         Ok(told)
     }
 
@@ -113,7 +113,7 @@ impl Machine {
         };
         let mut events = Vec::new(self.alloc);
         self.world.commit(&batch, rules, &mut events)?;
-        let told = tell_all(self.alloc, &mut self.labels, &events)?;
+        let told = tell_all(self.alloc, &mut self.labels, &mut self.journal, &events)?;
         Ok(told)
     }
 
@@ -135,7 +135,7 @@ impl Machine {
         let _count = batch.len();
         let mut events = Vec::new(self.alloc);
         self.world.abort(batch, &mut events)?;
-        let told = tell_all(self.alloc, &mut self.labels, &events)?;
+        let told = tell_all(self.alloc, &mut self.labels, &mut self.journal, &events)?;
         Ok(told)
     }
 }

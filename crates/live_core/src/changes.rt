@@ -111,7 +111,7 @@ impl Machine {
         let mut events = Vec::new(self.alloc);
         self.world
             .rewire(shelf, computed, linked.recipe, linked.slots, &mut events)?;
-        let told = tell_all(self.alloc, &mut self.labels, &events)?;
+        let told = tell_all(self.alloc, &mut self.labels, &mut self.journal, &events)?;
         Ok(told)
     }
 
@@ -149,7 +149,7 @@ impl Machine {
         let mut events = Vec::new(self.alloc);
         self.world.dispose(shelf, rules, thing, &mut events)?;
         let _count = events.len();
-        let told = tell_all(self.alloc, &mut self.labels, &events)?;
+        let told = tell_all(self.alloc, &mut self.labels, &mut self.journal, &events)?;
         keep_live(&mut self.pages, &self.world.tables.pages);
         Ok(told)
     }

@@ -202,7 +202,7 @@ impl Machine {
         ensures memory { IfErr result (λ e. e ≡ fault.NoMemory) }
     {
         let owner = owner_of(&self.names, &inside);
-        let links = links_of(self.alloc, &self.names, &name, body.as_body())?;
+        let links = links_of(self.alloc, &self.names, name.as_str(), body.as_body())?;
         let script = Script {
             body: body.into_body(),
             links,

@@ -18,6 +18,7 @@ use live_cmd::{Bare, Command, Verb};
 use live_entries::Entry;
 use live_labels::Labels;
 use live_names::Names;
+use page_events::Handlers;
 use sig_base::{Name, NoMemory};
 use sig_effect::EffectFault;
 use sig_host::{EqualsRule, Lent, Shelf};
@@ -43,7 +44,10 @@ impl Machine {
             labels: Labels::new(alloc),
             world,
             batch: None,
+            journal: None,
             templates: Vec::new(alloc),
+            handlers: Handlers::new(alloc),
+            scripts: Vec::new(alloc),
             pages: Vec::new(alloc),
         })
     }
@@ -84,6 +88,7 @@ impl Machine {
             Verb::Show => self.show(name),
             Verb::Scratch => self.scratch(shelf, name),
             Verb::Dispose => self.dispose(shelf, rules, &name),
+            Verb::Why => self.why(name),
         }
     }
 
@@ -117,6 +122,7 @@ impl Machine {
             Bare::Begin => self.begin(),
             Bare::Commit => self.commit(rules),
             Bare::Abort => self.abort(),
+            Bare::Record => self.begin_record(),
         }
     }
 
@@ -182,6 +188,13 @@ impl Machine {
             Command::Watch { name, signals } => self.watch(&name, &signals),
             Command::Unwatch { name, signal } => self.unwatch(&name, &signal),
             Command::Effect { name, body, inside } => self.make_effect(name, body, inside),
+            Command::On {
+                template,
+                place,
+                event,
+                body,
+            } => self.make_handler(&template, place, &event, body),
+            Command::Fire { page, node, event } => self.fire(shelf, rules, &page, node, &event),
             Command::Template { name, template } => self.make_template(name, template),
             Command::Mount {
                 name,

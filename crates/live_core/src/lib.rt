@@ -6,11 +6,13 @@ mod batches;
 mod bindings;
 mod changes;
 mod creation;
+mod events;
 mod faults;
 mod items;
 mod lists;
 mod machine;
 mod pages;
+mod records;
 
 pub use lists::edit_refusal;
 pub use machine::Machine;

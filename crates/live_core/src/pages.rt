@@ -18,12 +18,11 @@ ghost use Rattle.live_labels.specs.Views.{labels_of};
 ghost use Rattle.live_core.specs.Consistency.{AreFine, IsReady, Leaves, Steps};
 ghost use Rattle.live_core.specs.Views.{plain_of};
 
-use crate::answers::append;
 use crate::faults::make_page;
 use crate::machine::Machine;
 use effect_turns::flush;
 use live_entries::{Entry, Refusal};
-use live_labels::tell_all;
+use live_labels::{append, tell_all};
 use live_linking::owner_of;
 use live_pages::{Mounted, bring_all_up, keep_live, mount};
 use sig_base::{Name, NoMemory, PageId};
@@ -94,6 +93,7 @@ impl Machine {
             shelf,
             &self.templates,
             &self.labels,
+            &mut self.journal,
             &name,
             template,
             &mut told,
@@ -140,6 +140,7 @@ impl Machine {
             &mut self.world,
             shelf,
             &self.labels,
+            &mut self.journal,
             &mut self.pages,
         )?;
         append(&mut told, pages)?;
@@ -176,7 +177,7 @@ impl Machine {
         let mut events = Vec::new(self.alloc);
         let end = flush(&mut self.world, shelf, rules, &mut events)?;
         let _count = events.len();
-        let told = tell_all(self.alloc, &mut self.labels, &events)?;
+        let told = tell_all(self.alloc, &mut self.labels, &mut self.journal, &events)?;
         keep_live(&mut self.pages, &self.world.tables.pages);
         let told = self.end_flush(shelf, end.refused, told)?;
         Ok(told)

@@ -112,6 +112,12 @@ unrefused_names slacks m c none = (neither (name_refusal m c) (later_refusal sla
 unrefused_later : (slacks : List ℕ) (m : plain.Machine) (c : Command) → refusal_of slacks m c ≡ None → later_refusal slacks m c ≡ None
 unrefused_later slacks m c none = (neither (name_refusal m c) (later_refusal slacks m c) (unrefused_behind slacks m c none)).1
 
+-- what it names is found, and rows and the journal allow it
+pub unrefused_rows : (slacks : List ℕ) (m : plain.Machine) (c : Command) → refusal_of slacks m c ≡ None → row_refusal m c ≡ None
+unrefused_rows slacks m c none =
+    let behind = neither (place_refusal slacks m.world c) (option_or (row_refusal m c) (option_or (over_limit m c) (unwatch_refusal m c))) (unrefused_later slacks m c none) in
+    (neither (row_refusal m c) (option_or (over_limit m c) (unwatch_refusal m c)) behind.1).0
+
 -- there is room for it, and what it unwatches is watched
 pub unrefused_last : (slacks : List ℕ) (m : plain.Machine) (c : Command) → refusal_of slacks m c ≡ None → (over_limit m c ≡ None) × (unwatch_refusal m c ≡ None)
 unrefused_last slacks m c none =

@@ -1,7 +1,10 @@
-// Why commands are refused, in this order: that a batch is open or none is, the names, the places of host formulas and rules, what the rows of a list don't allow, what there
-// would be too much of, and a signal that isn't watched.
-ghost use Rattle.std.specs.Prelude.{◌≡◌, ℕ, Bool, List, IfOk, length, map, slice_get};
+// Why commands are refused, in this order: that a batch is open or none is, the names, the places of host formulas and rules, what the rows of a
+// list or the journal don't allow or isn't there on a page or among the lines of a template, what there would be too much of, and a signal that isn't
+// watched.
+ghost use Rattle.std.specs.Prelude.{◌≡◌, ℕ, Bool, List, None, Some, IfOk, if◌then◌else◌, is_some, length, map, slice_get};
 ghost use Rattle.std.specs.List.{filter};
+ghost use Rattle.signal_model.specs.Memos.{memo_of};
+ghost use Rattle.signal_model.specs.Sound.{kept_outcome};
 ghost use Rattle.effect_model.specs.Watchers.{watches};
 ghost use Rattle.effect_tables.specs.Placed.{effect_of};
 ghost use Rattle.effect_world.specs.Wholes.{whole_of};
@@ -9,25 +12,38 @@ ghost use Rattle.sig_effect.specs.Wholes.{host_states};
 ghost use Rattle.sig_host.specs.Hosts.{HostPlace};
 ghost use Rattle.effect_model.specs.declared.limits.TheConstants.{MOST_EFFECTS};
 ghost use Rattle.live_entries.specs.declared.refusal.LimitWord.TheVariants as limit;
+ghost use Rattle.live_entries.specs.declared.refusal.Refusal.TheVariants as refusal;
 ghost use Rattle.live_labels.specs.Views.{labels_of};
+ghost use Rattle.live_model.specs.Handlers.{has_node};
+ghost use Rattle.live_model.specs.Journals.{is_full};
 ghost use Rattle.live_model.specs.Labels.{is_named, label_at};
-ghost use Rattle.live_model.specs.Machine.{batch_refusal, is_done_in_batch, is_ending};
+ghost use Rattle.live_model.specs.Machine.{batch_refusal, can_tell_why, is_done_in_batch, is_ending, is_late};
 ghost use Rattle.live_model.specs.Machine.{body_refusal, host_refusal, later_refusal, name_refusal};
 ghost use Rattle.live_model.specs.Machine.{one_too_many, outside_refusal, over_limit, place_refusal, refusal_of};
-ghost use Rattle.live_model.specs.Machine.{row_refusal, rule_refusal, taken_refusal, unwatch_refusal};
+ghost use Rattle.live_model.specs.Machine.{page_at, row_refusal, rule_refusal, taken_refusal, unwatch_refusal};
 ghost use Rattle.live_model.specs.Names.{first_within, number_of};
+ghost use Rattle.live_model.specs.Pages.{tag_in, template_in};
 ghost use Rattle.live_model.specs.Rows.{edit_refusal, rows_at};
 ghost use Rattle.live_model.specs.Uses.{hosts_of_body, uses_of_body};
 ghost use Rattle.live_core.specs.Views.{batch_of, plain_of};
+ghost use Rattle.live_pages.specs.Updates.{AreStanding};
+ghost use Rattle.live_pages.specs.Views.{page_of, template_of};
+ghost use Rattle.page_model.specs.Pages.{tree_of};
+ghost use Rattle.page_model.specs.Replay.{below_root};
+ghost use Rattle.tpl_live.specs.Contents.{standing};
+ghost use Rattle.tpl_live.specs.Pages.{IsStanding};
 
 use effect_model::{MOST_EFFECTS, MOST_OWNERS, MOST_WATCHERS};
 use effect_world::World;
+use event_model::MOST_HANDLERS;
 use live_cmd::{Bare, Command, EffectBody, RowEdit, SourceText, Verb};
 use live_core::{Machine, edit_refusal};
 use live_entries::{LimitWord, Refusal};
 use live_labels::named_count;
+use live_pages::{LinkedTemplate, Mounted, page_among, template_among};
 use live_uses::{hosts_of_body, uses_of, uses_of_body};
-use sig_base::{MOST_NODES, MOST_PAGES, MOST_TEMPLATES, Name, NoMemory, NodeId, WatcherId};
+use live_why::Recorder;
+use sig_base::{MOST_NODES, MOST_PAGES, MOST_TEMPLATES, Name, NoMemory, NodeId, PageId, WatcherId};
 use sig_host::{EqualsRule, Lent, Shelf};
 use std::alloc::Global;
 
@@ -48,7 +64,7 @@ fn is_done_in_batch(command: &Command) -> bool
     match command {
         Command::Set { .. } | Command::Edit { .. } => true,
         Command::Named { verb, .. } => match verb {
-            Verb::Dispose => false,
+            Verb::Dispose | Verb::Why => false,
             _ => true,
         },
         _ => is_ending(command),
@@ -86,6 +102,50 @@ fn one_too_many(most: usize, count: usize, limit: LimitWord) -> Option<Refusal>
     } else {
         Some(Refusal::Limit(limit))
     }
+}
+
+// Whether a signal was made, or a journal was begun.
+fn is_late(machine: &Machine) -> bool
+    ensures { (asked : List HostPlace) → result ≡ is_late (plain_of asked machine.now) }
+{
+    0 < machine.world.graph.made() || machine.journal.is_some()
+}
+
+// The refusal of a journal that would begin after a signal was made, or after another.
+fn late_refusal(machine: &Machine) -> Option<Refusal>
+    ensures { (asked : List HostPlace) → result ≡ (if is_late (plain_of asked machine.now) then Some refusal.Late else None) }
+{
+    if is_late(machine) {
+        Some(Refusal::Late)
+    } else {
+        None
+    }
+}
+
+// Whether a computed has run.
+fn has_run(world: &World, id: NodeId) -> bool
+    ensures { result ≡ is_some (kept_outcome (memo_of world.now.graph.state.memos id)) }
+{
+    world.graph.kept(id).is_some()
+}
+
+// Whether it can be told why a computed ran: a journal was begun, and the computed has run.
+fn can_tell_why(machine: &Machine, id: NodeId) -> bool
+    ensures { (asked : List HostPlace) → result ≡ can_tell_why (plain_of asked machine.now) id }
+{
+    machine.journal.is_some() && has_run(&machine.world, id)
+}
+
+// The refusal of a computed of which it can't be told why it ran.
+fn run_refusal(machine: &Machine, name: &Name) -> Result<Option<Refusal>, NoMemory>
+    ensures { (asked : List HostPlace) → IfOk result (λ r. r
+        ≡ (if can_tell_why (plain_of asked machine.now) (number_of machine.now.names name.now) then None else Some (refusal.NoRun name.now))) }
+{
+    let computed = NodeId::of(machine.names.number_of(name));
+    if can_tell_why(machine, computed) {
+        return Ok(None);
+    }
+    Ok(Some(Refusal::NoRun(name.copy()?)))
 }
 
 // The refusal of a host formula that isn't there, or that is used or was dropped.
@@ -234,15 +294,79 @@ fn rows_refusal(machine: &Machine, name: &Name, edit: &RowEdit) -> Result<Option
     Ok(refusal)
 }
 
-// So it is for a command.
+// Whether a page has a node below its root.
+fn has_node(page: &Mounted, node: u64) -> bool
+    requires { IsStanding (standing page.now.page) }
+    ensures { result ≡ below_root node (tree_of (page_of page.now).content) }
+{
+    page.page.parent_of(node).is_some()
+}
+
+// The refusal of a node that isn't on a page, or is its root.
+fn node_refusal(machine: &Machine, page: &Name, node: u64) -> Option<Refusal>
+    requires { AreStanding machine.now.pages.items }
+    ensures { result ≡ (if has_node (page_at (map page_of machine.now.pages.items) (number_of machine.now.names page.now)) node
+        then None else Some (refusal.NoNode node)) }
+{
+    let number = PageId::of(machine.names.number_of(page));
+    let Some(shown) = page_among(&machine.pages, number) else {
+        return Some(Refusal::NoNode(node));
+    };
+    if has_node(shown, node) {
+        return None;
+    }
+    Some(Refusal::NoNode(node))
+}
+
+// Whether the line of a template makes an element; that of none doesn't.
+fn is_tag_in(templates: &[LinkedTemplate], template: u128, line: usize) -> bool
+    ensures { result ≡ tag_in (template_in (map template_of templates.now) template) line }
+{
+    if template >= templates.len() as u128 {
+        return false;
+    }
+    template_among(templates, template).template.tag_at(line)
+}
+
+// The refusal of a line of a template that makes no element.
+fn line_refusal(machine: &Machine, template: &Name, line: u64) -> Option<Refusal>
+    ensures { result ≡ (if tag_in (template_in (map template_of machine.now.templates.items) (number_of machine.now.names template.now)) line
+        then None else Some (refusal.NoLine line)) }
+{
+    let number = machine.names.number_of(template);
+    if is_tag_in(&machine.templates, number, line as usize) {
+        return None;
+    }
+    Some(Refusal::NoLine(line))
+}
+
+// The refusal of what a command doesn't find, rows that don't allow an edit, a node of a page, a line of a template, and of what the journal doesn't allow.
 fn row_refusal(machine: &Machine, command: &Command) -> Result<Option<Refusal>, NoMemory>
+    requires { AreStanding machine.now.pages.items }
     ensures { (asked : List HostPlace) → IfOk result (λ r. r ≡ row_refusal (plain_of asked machine.now) command.now) }
 {
     match command {
+        Command::Fire { page, node, .. } => Ok(node_refusal(machine, page, *node)),
+        Command::On {
+            template,
+            place,
+            ..
+        } => Ok(line_refusal(machine, template, *place)),
         Command::Edit { name, edit } => {
             let refusal = rows_refusal(machine, name, edit)?;
             Ok(refusal)
         }
+        Command::Bare(bare) => match bare {
+            Bare::Record => Ok(late_refusal(machine)),
+            _ => Ok(None),
+        },
+        Command::Named { verb, name } => match verb {
+            Verb::Why => {
+                let refusal = run_refusal(machine, name)?;
+                Ok(refusal)
+            }
+            _ => Ok(None),
+        },
         _ => Ok(None),
     }
 }
@@ -263,6 +387,22 @@ fn effect_refusal(machine: &Machine) -> Option<Refusal>
         return None;
     }
     one_too_many(MOST_EFFECTS, named_effects(machine), LimitWord::Effects)
+}
+
+// The refusal of what a full journal may not tell.
+fn full_refusal(journal: &Option<Recorder>) -> Option<Refusal>
+    ensures { result ≡ (if is_full journal.now then Some (refusal.Limit limit.Facts) else None) }
+{
+    match journal {
+        None => None,
+        Some(recorder) => {
+            if recorder.is_full() {
+                Some(Refusal::Limit(LimitWord::Facts))
+            } else {
+                None
+            }
+        }
+    }
 }
 
 // The refusal of what there would be too much of.
@@ -286,6 +426,9 @@ fn over_limit(machine: &Machine, command: &Command) -> Option<Refusal>
                 LimitWord::Watchers,
             )
         }
+        Command::On { .. } => {
+            one_too_many(MOST_HANDLERS, machine.handlers.count(), LimitWord::Handlers)
+        }
         Command::Template { .. } => {
             one_too_many(
                 MOST_TEMPLATES,
@@ -300,6 +443,10 @@ fn over_limit(machine: &Machine, command: &Command) -> Option<Refusal>
                 LimitWord::Pages,
             )
         }
+        Command::Named { verb, .. } => match verb {
+            Verb::Why => full_refusal(&machine.journal),
+            _ => None,
+        },
         _ => None,
     }
 }
@@ -335,6 +482,7 @@ fn later_refusal(
     rules: &[EqualsRule],
     command: &Command,
 ) -> Result<Option<Refusal>, NoMemory>
+    requires { AreStanding machine.now.pages.items }
     ensures { IfOk result (λ r. r ≡ later_refusal (map (λ r. r.slack) rules.now)
         (plain_of (⟦<Shelf as Lent>⟧.asked shelf.now) machine.now) command.now) }
 {
@@ -358,6 +506,7 @@ pub(crate) fn refusal_of(
     rules: &[EqualsRule],
     command: &Command,
 ) -> Result<Option<Refusal>, NoMemory>
+    requires { AreStanding machine.now.pages.items }
     ensures { IfOk result (λ r. r ≡ refusal_of (map (λ r. r.slack) rules.now)
         (plain_of (⟦<Shelf as Lent>⟧.asked shelf.now) machine.now) command.now) }
 {

@@ -1,5 +1,5 @@
 -- Where neither source nor sink failed and memory didn't run out, the bytes decide the status.
-use Rattle.std.proofs.Common.{◌≡◌, ◌≤◌, ◌<◌, ℕ, List, Option, Some, None, length, refl, inl, inr, arith}
+use Rattle.std.proofs.Common.{◌≤◌, ◌<◌, ℕ, List, Option, Some, None, length, refl, inl, inr, arith}
 use Rattle.std.specs.Prelude.{IfSome}
 use Rattle.sig_base.specs.declared.limits.TheConstants.{MOST_SCRIPT}
 use Rattle.live_words.specs.declared.jobs.Job.TheVariants as job

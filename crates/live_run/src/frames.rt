@@ -2,7 +2,7 @@
 ghost use Rattle.live_run.specs.Ends.{FollowEnds};
 
 use crate::Status;
-use page_follow::{FollowEnd, MOST_FRAMES, live_follow};
+use page_follow::{FollowEnd, live_follow};
 use sig_io::{Sink, Source};
 use std::alloc::Global;
 

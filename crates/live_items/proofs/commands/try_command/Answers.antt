@@ -1,8 +1,10 @@
 use Rattle.std.proofs.Common.{◌∙◌, List, is_some, map, sym}
 use Rattle.sig_host.specs.Hosts.{HostPlace}
 use Rattle.sig_effect.specs.Stores.{environment}
+use Rattle.live_pages.specs.Views.{template_of}
+use Rattle.live_pages.proofs.Shared.{all_standing}
 use Rattle.live_core.specs.Views.{plain_of}
-use Rattle.live_items.proofs.Refused.{done_so, fine_here, unrefused_batch, unrefused_last, unrefused_names}
+use Rattle.live_items.proofs.Refused.{done_so, fine_here, unrefused_batch, unrefused_last, unrefused_names, unrefused_rows}
 use Rattle.live_items.proofs.commands.try_command.Goals as goal
 
 pub perform-requires-clause-fine : goal.perform-requires-clause-fine
@@ -17,6 +19,12 @@ perform-requires-clause-batch g c =
     let asked : List HostPlace = map (λ p. record { there = is_some p.host; asks = p.count }) c.args.shelf.now.places.items in
     let why = rw c.in-Ok.is at c.refusal_of.ensures in
     unrefused_batch (map (λ r. r.slack) c.args.rules.now) (plain_of asked c.args.machine.now) c.args.command (sym why ∙ c.in_default-refusal.is)
+
+pub perform-requires-clause-rows : goal.perform-requires-clause-rows
+perform-requires-clause-rows g c =
+    let asked : List HostPlace = map (λ p. record { there = is_some p.host; asks = p.count }) c.args.shelf.now.places.items in
+    let why = rw c.in-Ok.is at c.refusal_of.ensures in
+    unrefused_rows (map (λ r. r.slack) c.args.rules.now) (plain_of asked c.args.machine.now) c.args.command (sym why ∙ c.in_default-refusal.is)
 
 pub perform-requires-clause-room : goal.perform-requires-clause-room
 perform-requires-clause-room g c =
@@ -35,3 +43,7 @@ returns-in-Ok-perform-clause-steps g c = λ hosts all sound.
     let why = rw c.in-Ok.is at c.refusal_of.ensures in
     done_so hosts _ _ _ (environment hosts (map (λ r. r.slack) c.args.rules.now)) (plain_of _ c.args.machine.now) c.args.command
     (sym why ∙ c.in_default-refusal.is) (rw c.in-Ok-perform.is at c.perform.ensures.steps hosts all sound)
+
+pub refusal_of-requires : goal.refusal_of-requires
+refusal_of-requires g c =
+    let m = c.args.machine.now in all_standing (map template_of m.templates.items) m.pages.items c.requires.ready.shown

@@ -16,18 +16,18 @@ returns-clause-steps g c = λ hosts asked sound.
     let env = environment hosts (map (λ r. r.slack) c.args.rules.now) in
     let act = commit env c.in-Some.batch.changed in
     let t = c.in_ok-told.ensures in
-    committed_steps hosts env asked m c.commit.new.self c.tell_all.new.labels c.take.new.self c.take.result c.in_ok-told.told.items c.in-Some.batch
+    committed_steps hosts env asked m c.commit.new.self c.tell_all.new.labels c.tell_all.new.journal c.take.new.self c.take.result c.in_ok-told.told.items c.in-Some.batch
     c.take.ensures.value c.in-Some.is c.take.ensures.after
-    (acts_steps hosts asked asked m c.commit.new.self c.tell_all.new.labels c.new-events.result.items c.commit.new.events.items act act c.in_ok-told.told.items
+    (acts_steps hosts asked asked m c.commit.new.self c.tell_all.new.labels c.tell_all.new.journal c.new-events.result.items c.commit.new.events.items act act c.in_ok-told.told.items
     c.new-events.ensures.items (c.in_ok-commit.ensures.does hosts asked sound) refl
-    (tells_by m.labels c.tell_all.new.labels c.commit.new.events.items _ c.in_ok-told.told.items c.deref.ensures.value t.entries t.labels t.names))
+    (tells_by m.labels c.tell_all.new.labels m.journal c.tell_all.new.journal c.commit.new.events.items _ c.in_ok-told.told.items c.deref.ensures.value t.entries t.labels t.noted t.names))
 
 pub returns-clause-leaves : goal.returns-clause-leaves
 returns-clause-leaves g c = λ hosts asked count sound.
     let m = c.args.self.now in
     let e = c.in_ok-commit.ensures in
     let env = environment hosts (map (λ r. r.slack) c.args.rules.now) in
-    leaves_batched asked asked count m c.commit.new.self c.tell_all.new.labels c.take.new.self c.requires.ready c.in_ok-told.ensures.names
+    leaves_batched asked asked count m c.commit.new.self c.tell_all.new.labels c.tell_all.new.journal c.take.new.self c.requires.ready c.in_ok-told.ensures.names
     (stays_quiet asked m.world c.commit.new.self (commit env c.in-Some.batch.changed) (e.does hosts asked sound).whole
     (all_keep_kinds.committing env c.in-Some.batch.changed) (ap (λ (s : Seen). s.given) e.graph) e.made e.tables)
     e.tables (roomy_none c.commit.new.self.graph.state.signals c.take.new.self c.take.ensures.after) (λ a. e.agrees asked a)

@@ -17,6 +17,12 @@ returns-in-Begin-clause-steps g c = λ hosts all sound. rw c.in-Begin.is (c.begi
 pub returns-in-Begin-clause-leaves : goal.returns-in-Begin-clause-leaves
 returns-in-Begin-clause-leaves g c = λ hosts all sound. c.begin.ensures.leaves _ (length c.args.rules.now)
 
+pub returns-in-Record-clause-steps : goal.returns-in-Record-clause-steps
+returns-in-Record-clause-steps g c = λ hosts all sound. rw c.in-Record.is (c.begin_record.ensures.steps hosts (map (λ r. r.slack) c.args.rules.now) _ sound)
+
+pub returns-in-Record-clause-leaves : goal.returns-in-Record-clause-leaves
+returns-in-Record-clause-leaves g c = λ hosts all sound. c.begin_record.ensures.leaves _ (length c.args.rules.now)
+
 pub returns-in-Commit-clause-steps : goal.returns-in-Commit-clause-steps
 returns-in-Commit-clause-steps g c = λ hosts all sound. rw c.in-Commit.is (c.commit.ensures.steps hosts _ sound)
 

@@ -23,6 +23,9 @@ returns-in-Pending-clause-steps g c = λ hosts all sound. rw c.in-Pending.is (c.
 pub returns-in-Pending-clause-leaves : goal.returns-in-Pending-clause-leaves
 returns-in-Pending-clause-leaves g c = λ hosts all sound. anyway c.pending.result (leaves_as _ (length c.args.rules.now) c.args.self.now _ c.requires.ready c.pending.ensures.same)
 
+pub returns-in-Why-clause-steps : goal.returns-in-Why-clause-steps
+returns-in-Why-clause-steps g c = λ hosts all sound. rw c.in-Why.is (c.why.ensures.steps hosts (map (λ r. r.slack) c.args.rules.now) _ sound)
+
 pub returns-in-Show-clause-steps : goal.returns-in-Show-clause-steps
 returns-in-Show-clause-steps g c = λ hosts all sound. rw c.in-Show.is (c.show.ensures.steps hosts (map (λ r. r.slack) c.args.rules.now) _ sound)
 

@@ -17,7 +17,7 @@ returns-clause-steps g c = λ hosts slacks all sound.
     let m = c.args.self.now in
     let e = c.in_ok-pages.ensures in
     let up = e.pages hosts slacks (plain_of [] m) all sound c.requires.shown in
-    let new = record m { world = c.bring_all_up.new.world; pages = c.bring_all_up.new.pages } in
+    let new = record m { world = c.bring_all_up.new.world; journal = c.bring_all_up.new.journal; pages = c.bring_all_up.new.pages } in
     brought_steps hosts (environment hosts slacks) _ _ m new c.args.told.items c.in_ok-pages.pages.items c.append.new.told.items
     c.args.refused (sym c.if-refused.false) up refl c.in_ok-append.ensures (e.sound hosts all sound)
 
@@ -25,10 +25,10 @@ pub returns-clause-leaves : goal.returns-clause-leaves
 returns-clause-leaves g c = λ hosts count ready all sound.
     let m = c.args.self.now in
     let e = c.in_ok-pages.ensures in
-    let new = record m { world = c.bring_all_up.new.world; pages = c.bring_all_up.new.pages } in
+    let new = record m { world = c.bring_all_up.new.world; journal = c.bring_all_up.new.journal; pages = c.bring_all_up.new.pages } in
     record {
       ready = ready_changed m new ready
-          (record { names = refl; templates = refl; labels = record { signals = refl; owners = refl; pages = refl; watchers = refl } }) (stays_settled m.world new.world e.world) (e.shown (map template_of m.templates.items) c.requires.shown)
+          (record { names = refl; templates = refl; handlers = refl; scripts = refl; labels = record { signals = refl; owners = refl; pages = refl; watchers = refl } }) (stays_settled m.world new.world e.world) (e.shown (map template_of m.templates.items) c.requires.shown)
           (pages_kept m.world new.world m.pages.items new.pages.items e.numbers (ap (λ t. t.pages.items) e.world.tables) (ap (λ t. t.pages_made) e.world.tables) ready.pages)
           (roomy_same m.world.graph.state.signals new.world.graph.state.signals m.batch e.world.signals ready.batch);
       holds = λ h. record { agrees = e.agrees; ruled = subst (AreRuled count) (sym e.world.signals) h.ruled };

@@ -21,12 +21,12 @@ returns-clause-steps g c = λ hosts all sound.
     let env = environment hosts (map (λ r. r.slack) c.args.rules.now) in
     let e = c.in_ok-end.ensures in
     let t = c.in_ok-told.ensures in
-    let said = record m { world = c.flush.new.world; labels = c.tell_all.new.labels } in
+    let said = record m { world = c.flush.new.world; labels = c.tell_all.new.labels; journal = c.tell_all.new.journal } in
     let middle = record said { pages = c.keep_live.new.pages } in
     let act : told.World → told.World = λ w. (flush env w).world in
-    let done = acts_steps hosts _ _ m c.flush.new.world c.tell_all.new.labels c.new-events.result.items c.flush.new.events.items act act c.in_ok-told.told.items
+    let done = acts_steps hosts _ _ m c.flush.new.world c.tell_all.new.labels c.tell_all.new.journal c.new-events.result.items c.flush.new.events.items act act c.in_ok-told.told.items
     c.new-events.ensures.items (e.done.does hosts all sound) refl
-    (tells_by m.labels c.tell_all.new.labels c.flush.new.events.items _ c.in_ok-told.told.items c.deref.ensures.value t.entries t.labels t.names) in
+    (tells_by m.labels c.tell_all.new.labels m.journal c.tell_all.new.journal c.flush.new.events.items _ c.in_ok-told.told.items c.deref.ensures.value t.entries t.labels t.noted t.names) in
     let paged = pages_steps hosts _ said middle c.in_ok-told.told.items _ done refl
     (c.keep_live.ensures ∙ ap (λ ns. filter (λ p. is_in p.number ns) m.pages.items) c.deref-2.ensures.value) in
     let last = c.in_ok-told-2.ensures.steps hosts (map (λ r. r.slack) c.args.rules.now) (e.done.answers hosts all) paged.sound in
@@ -37,12 +37,12 @@ returns-clause-leaves g c = λ hosts all sound.
     let m = c.args.self.now in
     let env = environment hosts (map (λ r. r.slack) c.args.rules.now) in
     let e = c.in_ok-end.ensures in
-    let middle = record m { world = c.flush.new.world; labels = c.tell_all.new.labels; pages = c.keep_live.new.pages } in
+    let middle = record m { world = c.flush.new.world; labels = c.tell_all.new.labels; journal = c.tell_all.new.journal; pages = c.keep_live.new.pages } in
     let d = e.done.does hosts all sound in
     let before = ap length c.new-events.ensures.items in
     let small = c.flush.new.events.small in
     let heavy = e.spent.weight in
-    let first = leaves_ended _ _ (length c.args.rules.now) m middle c.requires.ready (record { names = refl; templates = refl; labels = c.in_ok-told.ensures.names })
+    let first = leaves_ended _ _ (length c.args.rules.now) m middle c.requires.ready (record { names = refl; templates = refl; handlers = refl; scripts = refl; labels = c.in_ok-told.ensures.names })
     (stays_by _ _ m.world c.flush.new.world (λ w. (flush env w).world) d.whole (flushes_keep_counts env) (flushes_keep_kinds env))
     (c.keep_live.ensures ∙ ap (λ ns. filter (λ p. is_in p.number ns) m.pages.items) c.deref-2.ensures.value)
     (roomy_none c.flush.new.world.graph.state.signals m.batch c.requires.alone) (λ a. e.done.agrees) (λ r. e.done.rules _ r)

@@ -29,7 +29,7 @@ returns-clause-steps c = λ hosts slacks asked sound.
     let labels = record (labels_of m.labels) { effects = with_label number (Some (named c.args.name)) (labels_of m.labels).effects } in
     let body : body_of number (record { body = c.into_body.result; links = c.in_ok-links.links }) [] ≡ linked_body m.names c.args.name number c.args.body =
     (λ i. body_along number (c.into_body.ensures i)
-    ((c.in_ok-links.ensures no_bodies ∙ ap (links_of m.names c.args.name) c.as_body.ensures) i) 0 []) in
+    ((c.in_ok-links.ensures no_bodies ∙ (λ i. links_of m.names (c.as_str.ensures i) (c.as_body.ensures i))) i) 0 []) in
     steps_named hosts asked m c.name_effect.new.self c.make_effect.new.world c.args.name kind.Effect c.in_ok-id.id number labels
     (with_new_effect (linked_body m.names c.args.name number c.args.body) (owner_of m.names c.args.inside) (whole_of asked m.world)) c.new.result.items e.id
     (d.whole ∙ (λ i. at_rest (with_new_effect (body i) (c.owner_of-owner.ensures i) (whole_of asked m.world))))
@@ -66,7 +66,7 @@ name_effect-requires c =
 pub make_effect-requires-clause-fitting : goal.make_effect-requires-clause-fitting
 make_effect-requires-clause-fitting c =
     let m = c.args.self.now in
-    let links = c.in_ok-links.ensures no_bodies ∙ ap (links_of m.names c.args.name) c.as_body.ensures in
+    let links = c.in_ok-links.ensures no_bodies ∙ (λ i. links_of m.names (c.as_str.ensures i) (c.as_body.ensures i)) in
     record {
       fits = subst (λ x. x) (λ i. AreFitting (sym c.into_body.ensures i) (sym links i))
           (fit_links m.names c.args.name c.args.body c.requires.fit);

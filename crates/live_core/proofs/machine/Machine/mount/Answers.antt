@@ -58,7 +58,7 @@ returns-clause-steps g c = λ hosts slacks all sound.
     let up = e.page hosts slacks all sound in
     let d = c.in_ok-number.ensures.does hosts _ up.sound in
     let same = rw (c.deref.ensures.value, t, c.new-told.ensures.items) at up in
-    mount_steps hosts env _ _ m c.add_page.new.self c.mount.new.world c.make_page.new.world c.args.name (number_of m.names c.args.template.now) c.in_ok-number.number (owner_of m.names c.args.inside.now)
+    mount_steps hosts env _ _ m c.add_page.new.self c.mount.new.world c.make_page.new.world c.mount.new.journal c.args.name (number_of m.names c.args.template.now) c.in_ok-number.number (owner_of m.names c.args.inside.now)
     c.in_ok-page.page c.mount.new.told.items same (c.in_ok-number.ensures.id ∙ ap (λ x. x.pages_made) e.world.tables)
     (by_owner _ c.make_page.new.world c.mount.new.world c.owner_of-owner.result (owner_of m.names c.args.inside.now) d.whole c.owner_of-owner.ensures)
     d.sound a.parts a.names a.labels
@@ -76,7 +76,7 @@ returns-clause-leaves g c = λ hosts count all sound.
     let t = c.number_of-template.ensures in
     let below = template_used m.world _ m.names c.args.template.now c.requires.ready.meant (used_of m.world m.names c.args.template.now kind.Template second.0) in
     let page : Mounted = record { name = c.args.name; number = c.in_ok-number.number; template = c.number_of-template.result; page = c.in_ok-page.page } in
-    leaves_mounted _ _ count m c.add_page.new.self c.mount.new.world c.make_page.new.world c.args.name c.in_ok-number.number page c.requires.ready a.parts a.names a.labels a.pages c.owner_of-owner.result
+    leaves_mounted _ _ count m c.add_page.new.self c.mount.new.world c.make_page.new.world c.mount.new.journal c.args.name c.in_ok-number.number page c.requires.ready a.parts a.names a.labels a.pages c.owner_of-owner.result
     d.whole c.in_ok-number.ensures.signals e.world (c.in_ok-number.ensures.id ∙ ap (λ x. x.pages_made) e.world.tables)
     (record {
       template = subst (λ (n : ℕ). n < length (map template_of m.templates.items)) (sym t) (subst (λ (k : ℕ). number_of m.names c.args.template.now < k) (sym (length-map m.templates.items template_of)) below);

@@ -126,3 +126,21 @@ make_computed-requires-clause-alone g c = alone_by c.args.self.now.batch c.args.
 
 pub rewire-requires-clause-alone : goal.rewire-requires-clause-alone
 rewire-requires-clause-alone g c = alone_by c.args.self.now.batch c.args.command (ap is_done_in_batch c.in-Rewire.is) c.requires.batch
+
+pub returns-in-On-clause-steps : goal.returns-in-On-clause-steps
+returns-in-On-clause-steps g c = λ hosts all sound. rw c.in-On.is (c.make_handler.ensures.steps hosts (map (λ r. r.slack) c.args.rules.now) _ sound)
+
+pub returns-in-On-clause-leaves : goal.returns-in-On-clause-leaves
+returns-in-On-clause-leaves g c = λ hosts all sound. c.make_handler.ensures.leaves hosts _ (length c.args.rules.now) sound
+
+pub make_handler-requires-clause-fit : goal.make_handler-requires-clause-fit
+make_handler-requires-clause-fit g c = rw c.in-On.is at c.requires.read
+
+pub returns-in-Fire-clause-steps : goal.returns-in-Fire-clause-steps
+returns-in-Fire-clause-steps g c = λ hosts all sound. rw c.in-Fire.is (c.fire.ensures.steps hosts all sound)
+
+pub returns-in-Fire-clause-leaves : goal.returns-in-Fire-clause-leaves
+returns-in-Fire-clause-leaves g c = λ hosts all sound. c.fire.ensures.leaves hosts (length c.args.rules.now) all sound
+
+pub fire-requires-clause-alone : goal.fire-requires-clause-alone
+fire-requires-clause-alone g c = alone_by c.args.self.now.batch c.args.command (ap is_done_in_batch c.in-Fire.is) c.requires.batch

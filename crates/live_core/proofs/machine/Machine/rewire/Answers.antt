@@ -48,19 +48,19 @@ pub returns-clause-steps : goal.returns-clause-steps
 returns-clause-steps g c = λ hosts slacks sound.
     let m = c.args.self.now in
     let t = c.in_ok-told.ensures in
-    acts_steps hosts _ _ m c.rewire.new.self c.tell_all.new.labels c.new-events.result.items c.rewire.new.events.items
+    acts_steps hosts _ _ m c.rewire.new.self c.tell_all.new.labels c.tell_all.new.journal c.new-events.result.items c.rewire.new.events.items
     (rewire_signal c.of-computed.result (recipe_made (expression_of c.in_ok-linked.linked.recipe) c.in_ok-linked.linked.slots.items))
     (rewire_signal (number_of m.names c.args.name.now) (recipe_of m.names c.args.source)) c.in_ok-told.told.items
     c.new-events.ensures.items (c.in_ok-rewire.ensures.does hosts sound)
     (λ i. rewire_signal ((c.of-computed.ensures ∙ c.number_of.ensures) i) (c.in_ok-linked.ensures i))
-    (tells_by m.labels c.tell_all.new.labels c.rewire.new.events.items _ c.in_ok-told.told.items c.deref.ensures.value t.entries t.labels t.names)
+    (tells_by m.labels c.tell_all.new.labels m.journal c.tell_all.new.journal c.rewire.new.events.items _ c.in_ok-told.told.items c.deref.ensures.value t.entries t.labels t.noted t.names)
 
 pub returns-clause-leaves : goal.returns-clause-leaves
 returns-clause-leaves g c = λ hosts count all sound.
     let m = c.args.self.now in
     let e = c.in_ok-rewire.ensures in
     let r = recipe_made (expression_of c.in_ok-linked.linked.recipe) c.in_ok-linked.linked.slots.items in
-    leaves_acted _ _ count m c.rewire.new.self c.tell_all.new.labels c.requires.ready c.in_ok-told.ensures.names
+    leaves_acted _ _ count m c.rewire.new.self c.tell_all.new.labels c.tell_all.new.journal c.requires.ready c.in_ok-told.ensures.names
     (stays_by _ _ m.world c.rewire.new.self (rewire_signal c.of-computed.result r) (e.does hosts sound).whole
     (all_keep_counts.rewiring c.of-computed.result r) (all_keep_kinds.rewiring c.of-computed.result r))
     e.tables (roomy_none c.rewire.new.self.graph.state.signals m.batch c.requires.alone) (λ a. e.agrees) (λ k. e.rules count k) (let w = e.stays.worn in let t = ap (λ x. x.effects_made) e.tables in omega (arith, w, t))

@@ -17,16 +17,16 @@ returns-clause-steps g c = λ hosts asked sound.
     let act = set_cell env c.args.cell c.args.value in
     let t = c.in_ok-told.ensures in
     alone_steps hosts env asked m _ c.in_ok-told.told.items c.args.cell c.args.value c.requires.alone
-    (acts_steps hosts asked asked m c.change_cell.new.self c.tell_all.new.labels c.new-events.result.items c.change_cell.new.events.items
+    (acts_steps hosts asked asked m c.change_cell.new.self c.tell_all.new.labels c.tell_all.new.journal c.new-events.result.items c.change_cell.new.events.items
     act act c.in_ok-told.told.items c.new-events.ensures.items (c.in_ok-_done.ensures.does hosts asked c.requires.owned sound) refl
-    (tells_by m.labels c.tell_all.new.labels c.change_cell.new.events.items _ c.in_ok-told.told.items c.deref.ensures.value t.entries t.labels t.names))
+    (tells_by m.labels c.tell_all.new.labels m.journal c.tell_all.new.journal c.change_cell.new.events.items _ c.in_ok-told.told.items c.deref.ensures.value t.entries t.labels t.noted t.names))
 
 pub returns-clause-leaves : goal.returns-clause-leaves
 returns-clause-leaves g c = λ hosts asked count sound.
     let m = c.args.self.now in
     let e = c.in_ok-_done.ensures in
     let env = environment hosts (map (λ r. r.slack) c.args.rules.now) in
-    leaves_acted asked asked count m c.change_cell.new.self c.tell_all.new.labels c.requires.ready c.in_ok-told.ensures.names
+    leaves_acted asked asked count m c.change_cell.new.self c.tell_all.new.labels c.tell_all.new.journal c.requires.ready c.in_ok-told.ensures.names
     (stays_by asked asked m.world c.change_cell.new.self (set_cell env c.args.cell c.args.value) (e.does hosts asked c.requires.owned sound).whole
     (all_keep_counts.setting env c.args.cell c.args.value) (all_keep_kinds.setting env c.args.cell c.args.value))
     e.tables (roomy_none c.change_cell.new.self.graph.state.signals m.batch c.requires.alone)

@@ -24,11 +24,11 @@ returns-clause-steps g c = λ hosts asked sound.
     let env = environment hosts (map (λ r. r.slack) c.args.rules.now) in
     let act = set_quietly env c.args.cell c.args.value in
     let t = c.in_ok-told.ensures in
-    batched_steps hosts env asked m c.set_in.new.self c.tell_all.new.labels c.in_ok-told.told.items c.args.cell c.args.value c.in-Some.batch c.set_in.new.batch
+    batched_steps hosts env asked m c.set_in.new.self c.tell_all.new.labels c.tell_all.new.journal c.in_ok-told.told.items c.args.cell c.args.value c.in-Some.batch c.set_in.new.batch
     c.in-Some.is e.collects
-    (acts_steps hosts asked asked m c.set_in.new.self c.tell_all.new.labels c.new-events.result.items c.set_in.new.events.items
+    (acts_steps hosts asked asked m c.set_in.new.self c.tell_all.new.labels c.tell_all.new.journal c.new-events.result.items c.set_in.new.events.items
     act act c.in_ok-told.told.items c.new-events.ensures.items (e.does hosts asked sound) refl
-    (tells_by m.labels c.tell_all.new.labels c.set_in.new.events.items _ c.in_ok-told.told.items c.deref.ensures.value t.entries t.labels t.names))
+    (tells_by m.labels c.tell_all.new.labels m.journal c.tell_all.new.journal c.set_in.new.events.items _ c.in_ok-told.told.items c.deref.ensures.value t.entries t.labels t.noted t.names))
 
 pub returns-clause-leaves : goal.returns-clause-leaves
 returns-clause-leaves g c = λ hosts asked count sound.
@@ -36,7 +36,7 @@ returns-clause-leaves g c = λ hosts asked count sound.
     let e = c.in_ok-_done.ensures in
     let env = environment hosts (map (λ r. r.slack) c.args.rules.now) in
     let whole = (e.does hosts asked sound).whole in
-    leaves_batched asked asked count m c.set_in.new.self c.tell_all.new.labels (Some c.set_in.new.batch) c.requires.ready c.in_ok-told.ensures.names
+    leaves_batched asked asked count m c.set_in.new.self c.tell_all.new.labels c.tell_all.new.journal (Some c.set_in.new.batch) c.requires.ready c.in_ok-told.ensures.names
     (stays_quiet asked m.world c.set_in.new.self (set_quietly env c.args.cell c.args.value) whole
     (all_keep_kinds.setting_quietly env c.args.cell c.args.value) e.stays.given e.stays.made e.tables)
     e.tables

@@ -16,7 +16,7 @@ returns-clause-leaves c = λ hosts asked count sound.
 pub returns-clause-steps : goal.returns-clause-steps
 returns-clause-steps c = λ hosts slacks asked sound.
     let m = c.args.self.now in
-    acts_steps hosts asked asked m c.unwatch.new.self m.labels [] [] (changed_watcher c.of-watcher.result (forget c.of-signal.result))
+    acts_steps hosts asked asked m c.unwatch.new.self m.labels m.journal [] [] (changed_watcher c.of-watcher.result (forget c.of-signal.result))
     (changed_watcher (number_of m.names c.args.name.now) (forget (number_of m.names c.args.signal.now))) c.new.result.items refl (c.in_ok-unwatch.ensures.does hosts asked sound)
     (λ i. changed_watcher ((c.of-watcher.ensures ∙ c.number_of.ensures) i) (forget ((c.of-signal.ensures ∙ c.number_of-2.ensures) i)))
-    (untold m.labels c.new.result.items c.new.ensures.items)
+    (untold m.labels m.journal c.new.result.items c.new.ensures.items)

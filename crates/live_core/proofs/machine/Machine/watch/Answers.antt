@@ -23,8 +23,8 @@ returns-clause-leaves c = λ hosts asked count sound.
 pub returns-clause-steps : goal.returns-clause-steps
 returns-clause-steps c = λ hosts slacks asked sound.
     let m = c.args.self.now in
-    acts_steps hosts asked asked m c.watch.new.self m.labels [] [] (changed_watcher c.of-watcher.result (armed c.deref.result.now))
+    acts_steps hosts asked asked m c.watch.new.self m.labels m.journal [] [] (changed_watcher c.of-watcher.result (armed c.deref.result.now))
     (changed_watcher (number_of m.names c.args.name.now) (armed (map (number_of m.names) c.args.signals.now))) c.new.result.items refl (c.in_ok-watch.ensures.does hosts asked sound)
     (λ i. changed_watcher ((c.of-watcher.ensures ∙ c.number_of.ensures) i)
     (armed ((c.deref.ensures.value ∙ c.in_ok-signals.ensures ∙ ap (map (number_of m.names)) c.as_slice.ensures) i)))
-    (untold m.labels c.new.result.items c.new.ensures.items)
+    (untold m.labels m.journal c.new.result.items c.new.ensures.items)
