@@ -106,6 +106,34 @@ fn bounds_what_lives(rt: HostRuntime) -> Result<(), Fail> {
     )
 }
 
+// Handlers of events are counted as they are made, and a line that makes no element is told first.
+#[test]
+fn bounds_handlers(rt: HostRuntime) -> Result<(), Fail> {
+    let alloc = rt.alloc();
+    assert_long(
+        &rt,
+        alloc,
+        &[
+            Once("template t\ntag @b\nend\nend\n"),
+            Often("on t 1 @go\nend\n", 256),
+            Once("on t 1 @go\nend\non t 2 @go\nend\non u 1 @go\nend\nget t\n"),
+        ],
+        "error 5 handlers\nerror 25 2\nerror 2 u\nerror 4 t\n",
+    )?;
+    assert_long(
+        &rt,
+        alloc,
+        &[
+            Once("template t\ntag @b\nend\nend\non t 1 @go\n"),
+            Often("log 1\n", 65),
+            Once("end\non t 1 @go\n"),
+            Often("log 1\n", 64),
+            Once("end\nget t\n"),
+        ],
+        "error 5 body\nerror 4 t\n",
+    )
+}
+
 // Lists, cells and computeds count together.
 #[test]
 fn bounds_signals(rt: HostRuntime) -> Result<(), Fail> {

@@ -10,6 +10,8 @@ mod effects;
 #[cfg(test)]
 mod elements;
 #[cfg(test)]
+mod events;
+#[cfg(test)]
 mod faults;
 #[cfg(test)]
 mod frames;
@@ -17,6 +19,8 @@ mod frames;
 mod graph;
 #[cfg(test)]
 mod hosts;
+#[cfg(test)]
+mod journals;
 #[cfg(test)]
 mod lists;
 #[cfg(test)]
