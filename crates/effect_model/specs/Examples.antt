@@ -109,15 +109,19 @@ new_cell v = cell v None None
 abbrev pub line_set : ℕ → Tree → Statements → Statements
 line_set n f rest = body.plain (p.Set n f) rest
 
+-- so is one that logs
 abbrev pub line_log : Tree → Statements → Statements
 line_log f rest = body.plain (p.Log f) rest
 
+-- so is one that notes a set for the cleanup
 abbrev pub line_cleanup_set : ℕ → Tree → Statements → Statements
 line_cleanup_set n f rest = body.plain (p.CleanupSet n f) rest
 
+-- so is one that notes a log
 abbrev pub line_cleanup_log : Tree → Statements → Statements
 line_cleanup_log f rest = body.plain (p.CleanupLog f) rest
 
+-- so is one that disposes
 abbrev pub line_dispose : Thing → Statements → Statements
 line_dispose t rest = body.plain (p.Dispose t) rest
 

@@ -46,7 +46,8 @@ slots_in ss = map (λ (s : Slots). s.ids.items) ss
 abbrev pub parts_with : ℕ → Bodies → Linking → Parts
 parts_with origin no_bodies ls = parts origin [] [] [] []
 parts_with origin (body ss targets names inner rewires rest) no_links = parts origin [] [] [] []
-parts_with origin (body ss targets names inner rewires rest) (links ns ts ls slots more) = parts origin ts (linked_bodies origin inner ls) rewires slots
+parts_with origin (body ss targets names inner rewires rest) (links ns ts ls slots more)
+    = parts origin ts (linked_bodies origin inner ls) rewires slots
 
 -- what the places of the body of a script stand for, at the end of a path
 abbrev pub parts_of : ℕ → Script → List ℕ → Parts

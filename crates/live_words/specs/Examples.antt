@@ -16,10 +16,12 @@ job_by words = job_of (codes "live" ∷ words)
 
 -- ---- jobs
 
+-- a script is run
 pub run_is : job_by (codes "run" ∷ []) ≡ Some (job.Script script.Run)
 unfolding clap_on_literals
 run_is = refl
 
+-- with a trace
 pub trace_is : job_by (codes "run" ∷ codes "--trace" ∷ []) ≡ Some (job.Script script.Trace)
 unfolding clap_on_literals
 trace_is = refl
@@ -29,24 +31,29 @@ pub trace_in_front : job_by (codes "--trace" ∷ codes "run" ∷ []) ≡ Some (j
 unfolding clap_on_literals
 trace_in_front = refl
 
+-- the workload, of twelve rounds
 pub bench_is : job_by (codes "bench" ∷ codes "12" ∷ []) ≡ Some (job.Script (script.Bench 12))
 unfolding clap_on_literals rounds_of digits
 bench_is = refl
 
+-- frames are written
 pub wire_is : job_by (codes "wire" ∷ []) ≡ Some (job.Script script.Wire)
 unfolding clap_on_literals
 wire_is = refl
 
+-- frames are followed
 pub follow_is : job_by (codes "follow" ∷ []) ≡ Some job.Follow
 unfolding clap_on_literals
 follow_is = refl
 
 -- ---- other words
 
+-- no word at all is no job
 pub no_words : job_by [] ≡ None
 unfolding clap_on_literals
 no_words = refl
 
+-- nor is another word
 pub no_job : job_by (codes "walk" ∷ []) ≡ None
 unfolding clap_on_literals
 no_job = refl
@@ -56,6 +63,7 @@ pub help_is_none : job_by (codes "run" ∷ codes "--help" ∷ []) ≡ None
 unfolding clap_on_literals
 help_is_none = refl
 
+-- so it is with the version
 pub version_is_none : job_by (codes "--version" ∷ []) ≡ None
 unfolding clap_on_literals
 version_is_none = refl
@@ -65,10 +73,12 @@ pub run_with_rounds : job_by (codes "run" ∷ codes "12" ∷ []) ≡ None
 unfolding clap_on_literals
 run_with_rounds = refl
 
+-- the workload has rounds
 pub bench_without_rounds : job_by (codes "bench" ∷ []) ≡ None
 unfolding clap_on_literals
 bench_without_rounds = refl
 
+-- the workload has no trace
 pub bench_with_trace : job_by (codes "bench" ∷ codes "12" ∷ codes "--trace" ∷ []) ≡ None
 unfolding clap_on_literals
 bench_with_trace = refl
@@ -78,6 +88,7 @@ pub wire_with_trace : job_by (codes "wire" ∷ codes "--trace" ∷ []) ≡ None
 unfolding clap_on_literals
 wire_with_trace = refl
 
+-- frames have no rounds
 pub follow_with_rounds : job_by (codes "follow" ∷ codes "12" ∷ []) ≡ None
 unfolding clap_on_literals
 follow_with_rounds = refl
@@ -87,14 +98,17 @@ pub no_rounds : rounds_of (codes "0") ≡ None
 unfolding rounds_of digits
 no_rounds = refl
 
+-- a zero in front is no number of rounds
 pub zero_in_front : rounds_of (codes "012") ≡ None
 unfolding rounds_of digits
 zero_in_front = refl
 
+-- so many are the most
 pub most_rounds : rounds_of (codes "100000") ≡ Some 100000
 unfolding rounds_of digits
 most_rounds = refl
 
+-- one more are too many
 pub too_many_rounds : rounds_of (codes "100001") ≡ None
 unfolding rounds_of digits
 too_many_rounds = refl

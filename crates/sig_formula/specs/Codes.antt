@@ -86,5 +86,6 @@ stack_of-parts_of (untracked a) rest stack = stack_of-parts_of a (other 2 ∷ re
 -- a tree is stored as its parts
 abbrev pub tree_code : Coded Tree
 tree_code =
-    code_by (List Part) (coded_list (coded⊎ scalar_code.the_row.coded (coded⊎ coded_ℕ (coded⊎ op_code.the_row.coded (coded⊎ (coded_list coded_ℕ) coded_ℕ)))))
+    code_by (List Part) (coded_list (coded⊎ scalar_code.the_row.coded
+    (coded⊎ coded_ℕ (coded⊎ op_code.the_row.coded (coded⊎ (coded_list coded_ℕ) coded_ℕ)))))
     (λ t. parts_of t []) (λ ps. first_of (stack_of ps [])) (λ t. ap first_of (stack_of-parts_of t [] []))

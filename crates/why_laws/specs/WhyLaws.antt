@@ -59,7 +59,8 @@ TiedSettleLaw = (hosts : Hosts) (given : ℕ → Bool) (w : Signals) (k : Memos)
 -- At each run of a settling, the cause that the facts so far give is that for which the computed must run. So where it is none of the first
 -- four, the computed has met a source that was being evaluated.
 abbrev pub CausesLaw : Type 0
-CausesLaw = (hosts : Hosts) (given : ℕ → Bool) (w : Signals) (k : Memos) (journal : List Fact) (asked : List ℕ) (before later : List Visit) (v : Visit) →
+CausesLaw = (hosts : Hosts) (given : ℕ → Bool) (w : Signals) (k : Memos) (journal : List Fact) (asked : List ℕ)
+    (before later : List Visit) (v : Visit) →
     AreKept hosts w k → AreGiven given w k → AreTied given k (reverse journal) → evaluation_order hosts w asked ≡ before ++ v ∷ later →
     must_run (settled_first hosts w k before).memos v.computed.name v.path ≡ true →
     IsWhy (settled_first hosts w k before).memos v.path (memo_of (settled_first hosts w k before).memos v.computed.name)

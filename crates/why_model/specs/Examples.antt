@@ -61,5 +61,6 @@ pub cycle_chain : chain (entered_cycle ++ was_changed 9 Set ∷ came_round 0 (2 
 cycle_chain = refl
 
 -- a source that was disposed
-pub gone_chain : chain (came_to 1 (0 ∷ []) 1 ∷ was_changed 0 Gone ∷ came_to 1 (0 ∷ []) 7 ∷ []) 1 ≡ Some (record { run = 3; cause = cause.Changed 0 2 } ∷ [])
+pub gone_chain : chain (came_to 1 (0 ∷ []) 1 ∷ was_changed 0 Gone ∷ came_to 1 (0 ∷ []) 7 ∷ []) 1
+    ≡ Some (record { run = 3; cause = cause.Changed 0 2 } ∷ [])
 gone_chain = refl
