@@ -59,8 +59,12 @@ rows_first = refl
 -- in its branch, at the second row, with the sum before it
 abbrev pub at_second : Machine
 at_second =
-    record { left = 2; values = []; rounds = record
-    { going = going.Adding (record { rows = two_rows; place = 1; sum = value.Int (pos 1) }); body = 8 } ∷ [] }
+    record {
+      left = 2;
+      values = [];
+      rounds = record
+          { going = going.Adding (record { rows = two_rows; place = 1; sum = value.Int (pos 1) }); body = 8 } ∷ [];
+    }
 
 -- a sum stops at a row
 pub stops_at_row : run second_needs None with_tables [] 13 (on (begin second_needs)) ≡ on at_second
