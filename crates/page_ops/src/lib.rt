@@ -12,5 +12,5 @@ mod writer;
 
 pub use op::{ApplyFault, Op, OpFault};
 pub use reader::{one_reading, read_op};
-pub use replay::apply;
+pub use replay::{apply, perform};
 pub use writer::op_line;

@@ -3,35 +3,17 @@ ghost use Rattle.std.specs.Prelude.{◌≡◌, MatchResult};
 ghost use Rattle.page_model.specs.Replay as replay;
 ghost use Rattle.page_model.specs.Trees.{Brings};
 ghost use Rattle.page_tree.specs.Queries.{IsDone};
-ghost use Rattle.page_tree.specs.Subs.{insertion, sub_tree};
 ghost use Rattle.page_ops.specs.Ops.{Causes, op_of};
 
 use crate::judge::judge;
 use crate::op::{ApplyFault, Op};
-use page_tree::{Sub, Tree};
+use page_tree::Tree;
 use sig_base::NoMemory;
 use std::alloc::Global;
 
-fn insert(
-    alloc: Global,
-    tree: &mut Tree,
-    parent: u64,
-    place: u64,
-    sub: &Sub,
-) -> Result<(), NoMemory>
-    requires nodes { Brings (insertion parent place (sub_tree sub.now)) }
-    requires fits { IsDone (replay.do_op (insertion parent place (sub_tree sub.now)) tree.old) }
-    ensures { MatchResult result
-        (λ u. replay.do_op (insertion parent place (sub_tree sub.now)) tree.old ≡ replay.Done tree.new)
-        (λ e. tree.new ≡ tree.old) }
-{
-    let copy = sub.copy(alloc)?;
-    tree.insert(alloc, parent, place as usize, copy)?;
-    Ok(())
-}
-
-// Does an operation that isn't refused.
-fn perform(alloc: Global, tree: &mut Tree, op: &Op) -> Result<(), NoMemory>
+/// Does an operation that isn't refused, and looks for no cause why it might be. After want of memory the tree is as before. It asks that the
+/// attribute names of each element that comes are distinct.
+pub fn perform(alloc: Global, tree: &mut Tree, op: &Op) -> Result<(), NoMemory>
     requires nodes { Brings (op_of op.now) }
     requires fits { IsDone (replay.do_op (op_of op.now) tree.old) }
     ensures { MatchResult result (λ u. replay.do_op (op_of op.now) tree.old ≡ replay.Done tree.new) (λ e. tree.new ≡ tree.old) }
@@ -42,7 +24,7 @@ fn perform(alloc: Global, tree: &mut Tree, op: &Op) -> Result<(), NoMemory>
             Ok(())
         }
         Op::Insert(parent, place, sub) => {
-            insert(alloc, tree, *parent, *place, sub)?;
+            tree.insert(alloc, *parent, *place as usize, sub)?;
             Ok(())
         }
         Op::Move(id, place) => {

@@ -1,6 +1,6 @@
 -- The numbers of nodes that are built from rows.
 use Rattle.std.proofs.Common.{◌≡◌, ℕ, zero, suc, ◌-◌, ◌<◌, refl, sym, ap, ◌∙◌, arith, append_assoc, append-nil, List, [], ◌∷◌, ◌++◌, Option, Some, None}
-use Rattle.page_model.specs.Forest.{Forest, none, node, keys}
+use Rattle.page_model.specs.Forest.{Forest, none, keys}
 use Rattle.page_model.specs.Labels.{Kind}
 use Rattle.page_tree.specs.Rows.{Row, grown, grow, build, tree_in}
 

@@ -1,5 +1,5 @@
 -- The equations of a subtree's tree, and the rows that it brings.
-use Rattle.std.proofs.Common.{Vec, Global, ◌≡◌, ℕ, List, [], ◌∷◌, ◌++◌, refl, sym, ap, ◌∙◌, map, append_assoc, append-nil}
+use Rattle.std.proofs.Common.{◌≡◌, ℕ, List, [], ◌∷◌, ◌++◌, refl, sym, ap, ◌∙◌, map, append_assoc, append-nil}
 use Rattle.page_tree.specs.declared.sub.Sub.{Sub}
 use Rattle.page_tree.specs.declared.sub.Sub.TheVariants.{rolls-Text, rolls-Element}
 use Rattle.page_tree.specs.declared.sub.Sub.TheVariants as sub
@@ -68,11 +68,3 @@ alone_element n name attributes subs = ap siblings (tree_element n name attribut
 -- rows that are put at the end of none
 pub brought_rows : {A B : Type 0} (f : A → B) (xs ys : List A) (zs : List B) → map f xs ≡ map f ys ++ zs → ys ≡ [] → map f xs ≡ zs
 brought_rows f xs ys zs e z = e ∙ ap (λ ws. map f ws ++ zs) z
-
--- an element with the same name, attributes and children
-pub same_element : (n : ℕ) (name : List ℕ) (attributes : Vec (List ℕ × List ℕ) Global) (subs : Vec Sub Global) (name' : List ℕ) (attributes' : Vec (List ℕ × List ℕ) Global) (subs' : Vec Sub Global) → name ≡ name' → attributes.items ≡ attributes'.items → map sub_tree subs.items ≡ map sub_tree subs'.items → sub_tree (sub.Element n name attributes subs) ≡ sub_tree (sub.Element n name' attributes' subs')
-same_element n name attributes subs name' attributes' subs' e f g =
-    tree_element n name attributes subs
-    ∙ (ap (λ x. node n (Element x attributes.items) (side_by_side (map sub_tree subs.items)) none) e
-    ∙ (ap (λ xs. node n (Element name' xs) (side_by_side (map sub_tree subs.items)) none) f
-    ∙ (ap (λ ts. node n (Element name' attributes'.items) (side_by_side ts) none) g ∙ sym (tree_element n name' attributes' subs'))))

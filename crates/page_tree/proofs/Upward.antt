@@ -1,7 +1,7 @@
 -- How far below the root a node stands, by the rows on the way.
-use Rattle.std.proofs.Common.{◌≡◌, ℕ, zero, suc, ◌-◌, ◌<◌, ◌≤◌, ◌==◌, true, false, refl, sym, ap, ◌∙◌, arith, eqb-true, eq-eqb, inl, inr, if◌then◌else◌, Option, Some, None}
+use Rattle.std.proofs.Common.{◌≡◌, ℕ, zero, suc, ◌-◌, ◌<◌, ◌≤◌, ◌==◌, true, false, refl, sym, ap, ◌∙◌, arith, eqb-true, eq-eqb, inl, inr, if◌then◌else◌, Option, Some}
 use Rattle.std.proofs.lemmas.Bool.{cases_Bool, false≢true}
-use Rattle.page_model.specs.Forest.{Forest, none, node, on, parent, depth, height}
+use Rattle.page_model.specs.Forest.{Forest, on, parent, depth}
 use Rattle.page_model.specs.Labels.{Kind}
 use Rattle.page_model.proofs.Shared.{depth_low, depth_parent}
 use Rattle.page_tree.specs.Queries.{depth_at}

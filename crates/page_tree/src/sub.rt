@@ -1,7 +1,8 @@
 // Numbered subtrees, and the rows that they bring to a table.
 ghost use Rattle.std.specs.Prelude.{◌≡◌, ◌++◌, ◌∷◌, [], IfOk, OnOk, map};
 ghost use Rattle.page_model.specs.Edits.{siblings};
-ghost use Rattle.page_tree.specs.Rows.{numbered_row, row_with};
+ghost use Rattle.page_model.specs.Labels as label;
+ghost use Rattle.page_tree.specs.Rows.{label_of, numbered_row, row_with};
 ghost use Rattle.page_tree.specs.Subs.{rows_of, side_by_side, sub_tree, tree_number};
 
 use crate::table::{Label, Node};
@@ -15,19 +16,6 @@ pub enum Sub {
     Element(u64, Text, Vec<(Text, Text)>, Vec<Sub>),
 }
 
-fn copy_attributes(
-    alloc: Global,
-    attributes: &[(Text, Text)],
-) -> Result<Vec<(Text, Text)>, NoMemory>
-    ensures { IfOk result (λ xs. xs.items ≡ attributes.now) }
-{
-    let mut copies = Vec::new(alloc);
-    for attribute in attributes {
-        copies.push((attribute.0.copy()?, attribute.1.copy()?))?;
-    }
-    Ok(copies)
-}
-
 impl Sub {
     /// Its number.
     pub fn number(&self) -> u64
@@ -37,24 +25,6 @@ impl Sub {
         match self {
             Sub::Text(number, _) => *number,
             Sub::Element(number, _, _, _) => *number,
-        }
-    }
-
-    /// The same subtree; its texts share their bytes.
-    pub fn copy(&self, alloc: Global) -> Result<Sub, NoMemory>
-        ensures { IfOk result (λ s. sub_tree s ≡ sub_tree self.now) }
-    {
-        match self {
-            Sub::Text(number, text) => Ok(Sub::Text(*number, text.copy()?)),
-            Sub::Element(number, name, attributes, subs) => {
-                let name = name.copy()?;
-                let attributes = copy_attributes(alloc, attributes)?;
-                let mut copies = Vec::new(alloc);
-                for sub in subs {
-                    copies.push(sub.copy(alloc)?)?;
-                }
-                Ok(Sub::Element(*number, name, attributes, copies))
-            }
         }
     }
 }
@@ -79,6 +49,28 @@ fn put_row(
     Ok(())
 }
 
+fn copy_attributes(
+    alloc: Global,
+    attributes: &[(Text, Text)],
+) -> Result<Vec<(Text, Text)>, NoMemory>
+    ensures { IfOk result (λ xs. xs.items ≡ attributes.now) }
+{
+    let mut copies = Vec::new(alloc);
+    for attribute in attributes {
+        copies.push((attribute.0.copy()?, attribute.1.copy()?))?;
+    }
+    Ok(copies)
+}
+
+// What an element is, under the same name and with the same attributes.
+fn element(alloc: Global, name: &Text, attributes: &[(Text, Text)]) -> Result<Label, NoMemory>
+    ensures { IfOk result (λ l. label_of l ≡ label.Element name.now attributes.now) }
+{
+    let name = name.copy()?;
+    let attributes = copy_attributes(alloc, attributes)?;
+    Ok(Label::Element(name, attributes))
+}
+
 // The numbers of subtrees.
 fn numbers_of(alloc: Global, subs: &[Sub]) -> Result<Vec<u64>, NoMemory>
     ensures { IfOk result (λ ns. ns.items ≡ siblings (side_by_side (map sub_tree subs.now))) }
@@ -90,31 +82,27 @@ fn numbers_of(alloc: Global, subs: &[Sub]) -> Result<Vec<u64>, NoMemory>
     Ok(numbers)
 }
 
-/// Appends the rows of a subtree below a parent, each node before those below it.
+/// Appends the rows of a subtree below a parent, each node before those below it; their texts share the subtree's bytes.
 pub fn put_rows(
     alloc: Global,
     rows: &mut Vec<(u64, Node)>,
     parent: u64,
-    sub: Sub,
+    sub: &Sub,
 ) -> Result<(), NoMemory>
-    ensures { OnOk result (map numbered_row rows.new.items ≡ map numbered_row rows.old.items ++ rows_of parent (sub_tree sub)) }
+    ensures { OnOk result (map numbered_row rows.new.items ≡ map numbered_row rows.old.items ++ rows_of parent (sub_tree sub.now)) }
 {
     match sub {
         Sub::Text(number, text) => {
-            put_row(rows, number, Label::Text(text), parent, Vec::new(alloc))?;
+            let label = Label::Text(text.copy()?);
+            put_row(rows, *number, label, parent, Vec::new(alloc))?;
             Ok(())
         }
         Sub::Element(number, name, attributes, subs) => {
-            let children = numbers_of(alloc, &subs)?;
-            put_row(
-                rows,
-                number,
-                Label::Element(name, attributes),
-                parent,
-                children,
-            )?;
+            let label = element(alloc, name, attributes)?;
+            let children = numbers_of(alloc, subs)?;
+            put_row(rows, *number, label, parent, children)?;
             for sub in subs {
-                put_rows(alloc, rows, number, sub)?;
+                put_rows(alloc, rows, *number, sub)?;
             }
             Ok(())
         }

@@ -329,18 +329,18 @@ impl Tree {
         unset_attribute(&mut self.nodes, id, name);
     }
 
-    /// Puts a subtree at a place among the children of a node; after NoMemory the tree is as before.
+    /// Puts a copy of a subtree, whose texts share their bytes with it, at a place among the children of a node; after NoMemory the tree is as before.
     pub fn insert(
         &mut self,
         alloc: Global,
         parent: u64,
         place: usize,
-        sub: Sub,
+        sub: &Sub,
     ) -> Result<(), NoMemory>
-        requires nodes { Brings (insertion parent place (sub_tree sub)) }
-        requires fits { IsDone (replay.do_op (insertion parent place (sub_tree sub)) self.old) }
+        requires nodes { Brings (insertion parent place (sub_tree sub.now)) }
+        requires fits { IsDone (replay.do_op (insertion parent place (sub_tree sub.now)) self.old) }
         ensures { MatchResult result
-            (λ u. replay.do_op (insertion parent place (sub_tree sub)) self.old ≡ replay.Done self.new)
+            (λ u. replay.do_op (insertion parent place (sub_tree sub.now)) self.old ≡ replay.Done self.new)
             (λ e. self.new ≡ self.old) }
     {
         let number = sub.number();

@@ -1,4 +1,4 @@
-use Rattle.std.proofs.Common.{refl, sym, ap, ◌∙◌}
+use Rattle.std.proofs.Common.{refl, sym, ap}
 use Rattle.page_tree.specs.Rows.{look, row_in, row_of}
 use Rattle.page_tree.proofs.Edits.{kept_none}
 use Rattle.page_tree.proofs.Upward.{depth_is, depth_low_at}
