@@ -1,11 +1,11 @@
 -- Lines that are read as a template nest as a template's lines may.
-use Rattle.std.proofs.Common.{◌≡◌, ℕ, zero, suc, ◌+◌, ◌≤◌, Bool, true, false, List, [], ◌∷◌, ◌++◌, map, drop, length, Option, Some, None, Ok, inl, inr, refl, sym, ap, subst, ◌∙◌, arith}
+use Rattle.std.proofs.Common.{◌≡◌, ℕ, zero, suc, ◌+◌, ◌≤◌, Bool, true, false, List, [], ◌∷◌, ◌++◌, map, drop, length, Option, Some, None, Ok, refl, sym, ap, subst, arith}
 use Rattle.std.specs.Prelude.{◌&&◌, not, ◌==◌, option_map, if◌then◌else◌, nat_le, nat_lt}
 use Rattle.std.specs.List.{list_any}
 use Rattle.std.specs.Option.{option_or}
 use Rattle.std.specs.Str.{bytes_eq}
-use Rattle.std.proofs.lemmas.Bool.{and_from, cases_Bool, eqb-true, false≢true, le-leb, ltb-false, or_parts}
-use Rattle.std.proofs.lemmas.Slice.Eq.{bytes_eq-Decides}
+use Rattle.std.proofs.lemmas.Bool.{and_from, eqb-true, le-leb, ltb-false, or_parts, not-true}
+use Rattle.page_model.proofs.Shared.{other_way}
 use Rattle.sig_base.specs.declared.limits.TheConstants.{MOST_TAG}
 use Rattle.sig_base.specs.Words.{is_tag}
 use Rattle.sig_formula.specs.Trees.{Tree}
@@ -60,12 +60,6 @@ one_more p (m ∷ before) n h =
     let rest = one_more p before n both.1 in
     (rw both.0 rest.0, rest.1)
 
-other_way : (m n : List ℕ) → bytes_eq m n ≡ false → bytes_eq n m ≡ false
-other_way m n h = elim (cases_Bool (bytes_eq n m)) [
-  | inl e ↦ (let q : n ≡ m = (bytes_eq-Decides n m).0 e in absurd (false≢true (sym h ∙ (bytes_eq-Decides m n).1 (sym q))))
-  | inr e ↦ e
-]
-
 -- a name that isn't among those behind it
 apart_named : (before : List (List ℕ)) (n : List ℕ) (xs : List (List ℕ × Tree)) → Apart (before ++ n ∷ []) xs → (named n xs ≡ false) × Apart before xs
 apart_named before n [] h = (refl, tt)
@@ -75,17 +69,13 @@ apart_named before n (a ∷ xs) h =
     let e = other_way n a.0 first.1 in
     (rw e rest.0, (first.0, rest.1))
 
-not_true : (b : Bool) → not b ≡ true → b ≡ false
-not_true true h = absurd cc
-not_true false h = refl
-
 -- one more attribute before those that wait
 more_wait : (t : Bool) (before : List (List ℕ)) (n : List ℕ) (f : Tree) (xs : List (List ℕ × Tree)) →
     (t && not (list_any (λ m. bytes_eq m n) before)) ≡ true → good_name n ≡ true → Wait t (before ++ n ∷ []) xs → Wait t before ((n, f) ∷ xs)
 more_wait false before n f xs fit good h = absurd cc
 more_wait true before n f xs fit good h =
     let apart = apart_named before n xs h.2 in
-    ((apart.0, h.0), (good, h.1), (not_true (list_any (λ m. bytes_eq m n) before) fit, apart.1))
+    ((apart.0, h.0), (good, h.1), (not-true (list_any (λ m. bytes_eq m n) before) fit, apart.1))
 
 -- ---- parts, each at what is begun around it
 
