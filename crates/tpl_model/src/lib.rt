@@ -3,12 +3,14 @@
 #![tactic(auto)]
 
 mod change;
+mod fault;
 pub mod laws;
 mod mark;
 mod memo;
 mod shown;
 
 pub use change::Change;
+pub use fault::{either_failed, is_fault, is_over};
 pub use mark::{Child, Mark};
 pub use memo::{Heard, PageMemo};
 pub use shown::{Address, Look, Shown};

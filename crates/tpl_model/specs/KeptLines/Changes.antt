@@ -17,8 +17,8 @@ use Rattle.tpl_model.specs.declared.change.Change.TheOpen.{Change-F}
 use Rattle.tpl_model.specs.declared.change.Change.TheFolds.{fold-Change}
 
 -- what became of lines: all of it stays, it was made anew, or the first line was heard again, with whether it is the same (the names of a text, of
--- attributes, of a test or of both parts of a `try` have the outcomes of before, and the rows of a loop their keys, in the same order), what became of
--- its inside and of the lines behind it; `also` and `nothing` are the parts of an inside, one after the other
+-- attributes, of a test or of both parts of a `try` have the outcomes of before, and the rows of a loop their keys, in the same order), what became
+-- of its inside and of the lines behind it; `also` and `nothing` are the parts of an inside, one after the other
 pub data Change : Type 0 where
   stays : Change
   made : Change

@@ -13,7 +13,8 @@ use Rattle.tpl_model.specs.Shapes.{Here, row_here}
 use Rattle.tpl_model.specs.Sources.{evaluating}
 use Rattle.tpl_model.specs.KeptLines.Outcomes.{Outcomes, heard_of}
 use Rattle.tpl_model.specs.KeptLines.Kept.{rows_from}
-use Rattle.tpl_model.specs.PageUpdates.PageMemos.{Heard, Hearing, PageMemo, blank, either, hearing, attributes_heard, all_names, failed, memo_of, names, rows_memo, where_ended}
+use Rattle.tpl_model.specs.PageUpdates.PageMemos.{Heard, Hearing, PageMemo, blank, either, hearing}
+use Rattle.tpl_model.specs.PageUpdates.PageMemos.{attributes_heard, all_names, failed, memo_of, names, rows_memo, where_ended}
 
 -- the names that were heard have these outcomes
 pub record Agrees (heard : Outcomes) (source : ℕ → Outcome) : Type 0 where

@@ -4,7 +4,8 @@ use Rattle.sig_base.specs.declared.value.Outcome.{Outcome}
 use Rattle.page_model.specs.Edits.{listed, siblings}
 use Rattle.page_model.specs.Forest.{Forest, none, node, on, kids}
 use Rattle.page_model.specs.Labels.{Root, Look, Kind}
-use Rattle.page_model.specs.Pages.{NumberedPage, IsPage, IsShape, SameOrigin, bare, carried, edits_between, new_order, number_of, page_shape, renumbered, those, tree_of, with_numbers}
+use Rattle.page_model.specs.Pages.{NumberedPage, IsPage, IsShape, SameOrigin, bare, carried, edits_between, new_order}
+use Rattle.page_model.specs.Pages.{number_of, page_shape, renumbered, those, tree_of, with_numbers}
 use Rattle.page_model.specs.Replay.{Done, replay}
 use Rattle.signal_model.specs.Signals.{is_in}
 use Rattle.tpl_model.specs.Lines.{Line, block_of}
