@@ -1,5 +1,6 @@
 -- Names and escaping, after the HTML Standard's section on serialising fragments.
-use Rattle.std.specs.Prelude.{ℕ, Bool, List, ◌++◌, ◌==◌, ◌&&◌, ◌||◌, if◌then◌else◌, codes, encode_utf8, length, nat_le}
+use Rattle.std.specs.Prelude.{ℕ, Bool, List, ◌++◌, ◌==◌, ◌&&◌, ◌||◌, if◌then◌else◌, codes, encode_utf8, length, nat_le, not}
+use Rattle.std.specs.Char.{is_ascii}
 use Rattle.std.specs.List.{flat_map}
 use Rattle.std.specs.Str.{bytes_eq, chars}
 use Rattle.sig_base.specs.declared.limits.TheConstants.{MOST_TAG}
@@ -34,6 +35,10 @@ in_text c =
 -- a character in an attribute's value
 abbrev pub in_value : ℕ → List ℕ
 in_value c = if c == 34 then codes "&quot;" else in_text c
+
+-- a byte that is a character, written as it is in a text and in a value
+abbrev pub is_plain : ℕ → Bool
+is_plain b = is_ascii b && not (b == 34) && not (b == 38) && not (b == 60) && not (b == 62)
 
 -- the bytes of a text in an element
 unfoldable pub escaped : List ℕ → List ℕ
