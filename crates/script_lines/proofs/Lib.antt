@@ -1,4 +1,5 @@
 mod Blocks
 mod Cuts
 mod Reader
+mod Short
 pub mod Shared

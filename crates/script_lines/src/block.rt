@@ -3,7 +3,8 @@ ghost use Rattle.std.specs.Prelude.{◌≡◌, ◌<◌, ◌^◌, length, map, If
 ghost use Rattle.script_lines.specs.Lines.{kept_lines, last_number};
 ghost use Rattle.script_lines.specs.Views.{line_of};
 
-use crate::{NumberedLine, next_piece};
+use crate::NumberedLine;
+use crate::line::next_kept;
 use sig_base::NoMemory;
 use std::alloc::Global;
 
@@ -19,8 +20,8 @@ pub fn lines_of(alloc: Global, block: &[u8]) -> Result<Vec<NumberedLine<'_>>, No
     let mut lines = Vec::new(alloc);
     let mut at = 0;
     let mut number = 0;
-    while let Some((piece, next, after)) = next_piece(alloc, block, at, number)? {
-        lines.extend_from_slice(&piece.lines)?;
+    while let Some((line, next, after)) = next_kept(block, at, number) {
+        lines.push(line)?;
         at = next;
         number = after;
     }

@@ -9,11 +9,12 @@ use crate::word::{begins_block, closes, opens};
 use sig_base::NoMemory;
 use std::alloc::Global;
 
-/// The lines of a command, and whether its end is there.
+/// The lines of a command, the first and the others, and whether its end is there. A command of one line takes no memory.
 #[derive(Drop)]
 pub struct Piece<'a> {
     pub ended: bool,
-    pub lines: Vec<NumberedLine<'a>>,
+    pub first: NumberedLine<'a>,
+    pub others: Vec<NumberedLine<'a>>,
 }
 
 // How many levels are open after a line of a block.
@@ -31,38 +32,47 @@ fn level_after(level: usize, line: &[u8]) -> usize
     }
 }
 
-// The block that these lines begin: all its lines, the place after it, and the number of the line there.
+// The block that this line begins: all its lines, the place after it, and the number of the line there.
 fn rest_of_block<'a>(
+    alloc: Global,
     script: &'a [u8],
     start: usize,
     number: u32,
-    begun: Vec<NumberedLine<'a>>,
+    first: NumberedLine<'a>,
 ) -> Result<(Piece<'a>, usize, u32), NoMemory>
     requires at { start ≤ length script.now }
     requires count { number + (length script.now - start) < 2 ^ 32 }
     ensures within { IfOk result (λ x. (start ≤ x.1) × (x.1 ≤ length script.now)) }
     ensures count { IfOk result (λ x. x.2 ≤ number + (x.1 - start)) }
-    ensures lines { IfOk result (λ x. length begun.entry.items ≤ length x.0.lines.items) }
-    ensures piece { IfOk result (λ x. pieces (inside 1 (map line_of begun.entry.items)) (kept_lines number (drop start script.now))
+    ensures piece { IfOk result (λ x. pieces (inside 1 (line_of first.entry ∷ [])) (kept_lines number (drop start script.now))
         ≡ piece_of x.0 ∷ pieces_of x.2 (drop x.1 script.now)) }
 {
-    let mut lines = begun;
+    let mut others = Vec::new(alloc);
     let mut at = start;
     let mut line = number;
     let mut level: usize = 1;
     while let Some((found, next, after)) = next_kept(script, at, line) {
         level = level_after(level, found.text);
-        lines.push(found)?;
+        others.push(found)?;
         at = next;
         line = after;
         if level == 0 {
-            return Ok((Piece { ended: true, lines }, at, line));
+            return Ok((
+                Piece {
+                    ended: true,
+                    first,
+                    others,
+                },
+                at,
+                line,
+            ));
         }
     }
     Ok((
         Piece {
             ended: false,
-            lines,
+            first,
+            others,
         },
         at,
         line,
@@ -88,20 +98,25 @@ pub fn next_piece(
     requires count { line + (length script.now - at) < 2 ^ 32 }
     ensures within { IfOk result (λ found. IfSome found (λ x. (at < x.1) × (x.1 ≤ length script.now))) }
     ensures count { IfOk result (λ found. IfSome found (λ x. x.2 ≤ line + (x.1 - at))) }
-    ensures lines { IfOk result (λ found. IfSome found (λ x. 0 < length x.0.lines.items)) }
     ensures piece { IfOk result (λ found. MatchOption found (pieces_of line (drop at script.now) ≡ [])
         (λ x. pieces_of line (drop at script.now) ≡ piece_of x.0 ∷ pieces_of x.2 (drop x.1 script.now))) }
 {
-    let Some((found, next, after)) = next_kept(script, at, line) else {
+    let Some((first, next, after)) = next_kept(script, at, line) else {
         return Ok(None);
     };
-    let begins = begins_block(found.text);
-    let mut lines = Vec::new(alloc);
-    lines.push(found)?;
-    if begins {
-        return Ok(Some(rest_of_block(script, next, after, lines)?));
+    if begins_block(first.text) {
+        return Ok(Some(rest_of_block(alloc, script, next, after, first)?));
     }
-    Ok(Some((Piece { ended: true, lines }, next, after)))
+    let others = Vec::new(alloc);
+    Ok(Some((
+        Piece {
+            ended: true,
+            first,
+            others,
+        },
+        next,
+        after,
+    )))
 }
 
 /// A script may be cut after a line, outside a block: its pieces are those of the two parts in turn.

@@ -10,7 +10,7 @@ fn shape(alloc: Global, script: &[u8]) -> Result<Option<(bool, usize, usize, u32
         return Ok(None);
     }
     let found = next_piece(alloc, script, 0, 1)?;
-    Ok(found.map(|(piece, at, line)| (piece.ended, piece.lines.len(), at, line)))
+    Ok(found.map(|(piece, at, line)| (piece.ended, piece.others.len() + 1, at, line)))
 }
 
 // The number and the length of the last line of the first command.
@@ -19,12 +19,10 @@ fn last_line(alloc: Global, script: &[u8]) -> Result<Option<(u32, usize)>, NoMem
         return Ok(None);
     }
     match next_piece(alloc, script, 0, 1)? {
-        Some((piece, _, _)) => Ok(
-            piece
-                .lines
-                .last()
-                .map(|line| (line.number, line.text.len())),
-        ),
+        Some((piece, _, _)) => match piece.others.last() {
+            Some(line) => Ok(Some((line.number, line.text.len()))),
+            None => Ok(Some((piece.first.number, piece.first.text.len()))),
+        },
         None => Ok(None),
     }
 }

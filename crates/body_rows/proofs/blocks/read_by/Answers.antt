@@ -1,5 +1,5 @@
 use Rattle.std.proofs.Common.{arith}
-use Rattle.body_rows.proofs.Short.{short_lines}
+use Rattle.script_lines.proofs.Shared.{short_lines}
 use Rattle.body_rows.proofs.blocks.read_by.Goals as goal
 
 pub read_body-requires-clause-lines : goal.read_body-requires-clause-lines

@@ -1,4 +1,4 @@
-use Rattle.std.proofs.Common.{◌≡◌, ◌+◌, ◌<◌, ◌≤◌, ◌-◌, length, drop, map}
+use Rattle.std.proofs.Common.{◌≡◌, ◌+◌, ◌<◌, ◌≤◌, ◌-◌, ◌∷◌, [], length, drop, map}
 use Rattle.script_lines.specs.Lines.{kept_lines}
 use Rattle.script_lines.specs.Pieces.{pieces, inside}
 use Rattle.script_lines.specs.Views.{line_of}
@@ -11,9 +11,8 @@ invariant-loop-found l = record {
   count : l.line ≤ l.number + (l.at - l.start);
   some : 0 < l.level;
   few : l.level ≤ l.at - l.start + 1;
-  grown : length l.fn.begun.items ≤ length l.lines.items;
-  rest : pieces (inside l.level (map line_of l.lines.items)) (kept_lines l.line (drop l.at l.script))
-      ≡ pieces (inside 1 (map line_of l.fn.begun.items)) (kept_lines l.number (drop l.start l.script));
+  rest : pieces (inside l.level (line_of l.first ∷ map line_of l.others.items)) (kept_lines l.line (drop l.at l.script))
+      ≡ pieces (inside 1 (line_of l.first ∷ [])) (kept_lines l.number (drop l.start l.script));
 }
 
 abbrev pub decreases-loop-found : goal.decreases-loop-found

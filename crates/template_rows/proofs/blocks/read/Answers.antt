@@ -1,5 +1,5 @@
 use Rattle.std.proofs.Common.{arith}
-use Rattle.template_rows.proofs.Short.{short_lines}
+use Rattle.script_lines.proofs.Shared.{short_lines}
 use Rattle.template_rows.proofs.blocks.read.Goals as goal
 
 pub read_template-requires-clause-lines : goal.read_template-requires-clause-lines

@@ -1,7 +1,7 @@
 -- The lines of a short block are short.
-use Rattle.std.proofs.Common.{◌≡◌, ◌≤◌, ◌+◌, ℕ, Bool, true, false, cond, get_or, List, [], ◌∷◌, length, inl, inr, refl, arith, suc, zero, ◌<◌}
-use Rattle.std.specs.Prelude.{◌==◌, ◌&&◌, not, slice_index}
-use Rattle.std.specs.List.{All, filter, onto_first}
+use Rattle.std.proofs.Common.{◌≡◌, ◌≤◌, ◌+◌, ℕ, List, [], ◌∷◌, length, inl, inr, arith, suc, zero}
+use Rattle.std.specs.Prelude.{◌&&◌, slice_index}
+use Rattle.std.specs.List.{All, onto_first}
 use Rattle.std.proofs.lemmas.Bool.{cases_Bool}
 use Rattle.script_lines.specs.Lines.{NumberedLine, is_line_feed, is_passed, is_return, kept, kept_lines, lines, numbered}
 
