@@ -1,3 +1,4 @@
+mod Accepted
 mod Complete
 mod Groups
 mod Laws

@@ -13,3 +13,8 @@ pub use Rattle.formula_text.proofs.Quotes.{inner_form, quoted_says, quoted_utf8}
 -- what can be printed, and that it is UTF-8
 pub use Rattle.formula_text.proofs.RoundTrips.{Good, AllGood, good_spelled, good_symbol, good_word, printable_tokens}
 pub use Rattle.formula_text.proofs.RoundTrips.{are_ascii, ascii, number_utf8, text_utf8, written_utf8}
+-- a name is UTF-8
+pub use Rattle.formula_text.proofs.Places.{name_utf8}
+-- what a formula can be refused for, and what is known of one that isn't
+pub use Rattle.formula_text.proofs.Accepted.{IsRefusal, nothing, untracked, row_here, nest, long, sources}
+pub use Rattle.formula_text.proofs.Accepted.{either, few_names, formula_refusal, neither, not_chosen}
