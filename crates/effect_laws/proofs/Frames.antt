@@ -44,7 +44,7 @@ framed_tell es = record { framed = λ w. refl }
 pub framed_notify : (ns : List ℕ) → IsOfSignals (notify_of_all ns)
 framed_notify ns = record { framed = λ w. refl }
 
-framed_quiet : (n : ℕ) (v : Value) → IsOfSignals (with_quiet_value n v)
+pub framed_quiet : (n : ℕ) (v : Value) → IsOfSignals (with_quiet_value n v)
 framed_quiet n v = record { framed = λ w. refl }
 
 new_value : (n : ℕ) (v : Value) → IsOfSignals (with_new_value n v)

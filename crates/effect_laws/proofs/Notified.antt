@@ -38,7 +38,7 @@ some_reaches w k ns (m ∷ ms) only (inl r) = or_left (is_reached_by_any w k ns 
 some_reaches w k ns (m ∷ ms) only (inr r) =
     or_right (is_reached_by_any w k ns m) (some_name (is_reached_by_any w k ns) ms) (some_reaches w k ns ms only r)
 
-both : (a b : Bool) → (a && b) ≡ true → (a ≡ true) × (b ≡ true)
+pub both : (a b : Bool) → (a && b) ≡ true → (a ≡ true) × (b ≡ true)
 both true b h = (refl, h)
 both false b h = cc
 

@@ -11,6 +11,11 @@ pub use Rattle.effect_laws.proofs.HostUse.{host_law}
 pub use Rattle.effect_laws.proofs.Notified.{notified_law}
 pub use Rattle.effect_laws.proofs.Flushes.{rest_law}
 pub use Rattle.effect_laws.proofs.QuietFlush.{quiet_flush_law}
+-- ---- tests
+
+-- a thing is the same as itself, and two tests together
+pub use Rattle.effect_laws.proofs.Trees.{same_self}
+pub use Rattle.effect_laws.proofs.Notified.{both}
 -- ---- what steps keep
 
 -- what looks and runs keep, turns and flushes keep

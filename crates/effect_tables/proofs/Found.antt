@@ -1,11 +1,12 @@
 -- The effect at the place of its number.
-use Rattle.std.proofs.Common.{◌≡◌, ℕ, zero, suc, ◌==◌, ◌<◌, Bool, true, false, cond, List, [], ◌∷◌, map, length, get_or, Option, option_map, Some, None, refl, sym, ap, ◌∙◌, arith}
+use Rattle.std.proofs.Common.{◌≡◌, ℕ, zero, suc, ◌==◌, ◌<◌, Bool, true, false, cond, List, [], ◌∷◌, map, length, get_or, Option, option_map, Some, None, refl, ap, ◌∙◌, arith}
 use Rattle.std.specs.Prelude.{IfNone}
 use Rattle.std.specs.List.{AllByRecursion}
 use Rattle.effect_model.specs.Worlds.{effect_at}
 use Rattle.effect_tables.specs.declared.effect.Effect.{Effect}
 use Rattle.effect_tables.specs.Locations.{effect_place}
 use Rattle.effect_tables.specs.Placed.{effect_of}
+use Rattle.effect_tables.proofs.Numbers.{some_one}
 
 -- at this place stands the first effect of the number
 abbrev pub IsPlace : ℕ → List Effect → ℕ → Type 0
@@ -17,15 +18,12 @@ IsPlace k (x ∷ xs) (suc i) = ((k == x.id) ≡ false) × IsPlace k xs i
 abbrev pub IsNowhere : ℕ → List Effect → Type 0
 IsNowhere k xs = AllByRecursion (λ (x : Effect). (k == x.id) ≡ false) xs
 
-some_place : (m n : ℕ) → Some m ≡ Some n → m ≡ n
-some_place m n e = cc
-
 -- a place is that of the first, or one place further on among the others
 behind : (k : ℕ) (x : Effect) (xs : List Effect) (o : Option ℕ) → (k == x.id) ≡ false → ((i : ℕ) → Some i ≡ o → IsPlace k xs i) → (i : ℕ) → Some i ≡ option_map suc o → IsPlace k (x ∷ xs) i
 behind k x xs None off more i e = cc
-behind k x xs (Some n) off more zero e = let p : 0 ≡ suc n = some_place 0 (suc n) e in absurd (omega (arith, p))
+behind k x xs (Some n) off more zero e = let p : 0 ≡ suc n = some_one 0 (suc n) e in absurd (omega (arith, p))
 behind k x xs (Some n) off more (suc i) e =
-    let p : suc i ≡ suc n = some_place (suc i) (suc n) e in
+    let p : suc i ≡ suc n = some_one (suc i) (suc n) e in
     let q : i ≡ n = omega (arith, p) in
     (off, more i (ap Some q))
 
@@ -35,7 +33,7 @@ place_is k (x ∷ xs) i e = go (k == x.id) refl e (place_is k xs)
   where
     first : (j : ℕ) → (k == x.id) ≡ true → Some j ≡ Some 0 → IsPlace k (x ∷ xs) j
     first zero on h = on
-    first (suc j) on h = let p : suc j ≡ 0 = some_place (suc j) 0 h in absurd (omega (arith, p))
+    first (suc j) on h = let p : suc j ≡ 0 = some_one (suc j) 0 h in absurd (omega (arith, p))
 
     go : (b : Bool) → (k == x.id) ≡ b → Some i ≡ cond b (Some 0) (option_map suc (effect_place k xs)) → ((j : ℕ) → Some j ≡ effect_place k xs → IsPlace k xs j) → IsPlace k (x ∷ xs) i
     go true on h more = first i on h

@@ -12,7 +12,8 @@ use Rattle.effect_tables.specs.Owners.{closed_at, has_row, is_row, living, numbe
 suc_apart : (a b : ℕ) → suc a ≡ suc b → a ≡ b
 suc_apart a b e = omega (arith, e)
 
-some_one : (m n : ℕ) → Some m ≡ Some n → m ≡ n
+-- two that are there are one
+pub some_one : (m n : ℕ) → Some m ≡ Some n → m ≡ n
 some_one m n e = cc
 
 -- which row an owner has that has this one

@@ -1,6 +1,6 @@
 -- The rows of the store after an edit, and its tree by the owners' own numbers.
-use Rattle.std.proofs.Common.{◌≡◌, ℕ, zero, suc, ◌<◌, ◌==◌, ◌||◌, ◌++◌, Bool, true, false, List, [], ◌∷◌, length, Option, refl, sym, ap, ◌∙◌, arith, ◌⊎◌, inl, inr}
-use Rattle.std.specs.List.{AllByRecursion}
+use Rattle.std.proofs.Common.{◌≡◌, ℕ, zero, suc, ◌<◌, ◌==◌, ◌||◌, ◌++◌, Bool, true, false, cond, List, [], ◌∷◌, length, Option, refl, sym, ap, ◌∙◌, arith, ◌⊎◌, inl, inr}
+use Rattle.std.specs.List.{AllByRecursion, filter}
 use Rattle.std.proofs.lemmas.Bool.{eq-eqb, eqb-true}
 use Rattle.signal_model.proofs.Shared.{or_left, or_right, tested}
 use Rattle.effect_model.specs.Owners.{Thing, the_signal, the_owner, the_effect, the_page, the_watcher, Owned, nothing, thing, cleanup, same_thing}
@@ -64,13 +64,24 @@ made_row rows o t k = elim (tested (k == length rows)) [
 
 -- ---- facts of all
 
+-- a fact that follows from another
 pub all_weaker : {A : Type 0} (P Q : A → Type 0) (xs : List A) → ((x : A) → P x → Q x) → AllByRecursion P xs → AllByRecursion Q xs
 all_weaker P Q [] keeps all = tt
 all_weaker P Q (x ∷ xs) keeps all = (keeps x all.0, all_weaker P Q xs keeps all.1)
 
+-- where one is put behind
 pub all_behind : {A : Type 0} (P : A → Type 0) (xs : List A) (x : A) → AllByRecursion P xs → P x → AllByRecursion P (xs ++ x ∷ [])
 all_behind P [] x all one = (one, tt)
 all_behind P (y ∷ ys) x all one = (all.0, all_behind P ys x all.1 one)
+
+-- where some are left out
+pub all_filtered : {A : Type 0} (P : A → Type 0) (f : A → Bool) (xs : List A) → AllByRecursion P xs → AllByRecursion P (filter f xs)
+all_filtered P f [] all = tt
+all_filtered P f (x ∷ xs) all = go (f x) (all_filtered P f xs all.1)
+  where
+    go : (b : Bool) → AllByRecursion P (filter f xs) → AllByRecursion P (cond b (x ∷ filter f xs) (filter f xs))
+    go true more = (all.0, more)
+    go false more = more
 
 -- what passes unless it is known is known
 pub unless_known : (owners : List (Option ℕ)) (m : ℕ) (b : Bool) → b ≡ true → (is_row m owners ≡ false → b ≡ false) → is_row m owners ≡ true

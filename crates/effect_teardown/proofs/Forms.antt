@@ -1,8 +1,9 @@
 -- Trees stay formed.
 use Rattle.std.proofs.Common.{◌≡◌, ℕ, Bool, true, false, cond, refl, sym, ap, subst, ◌∙◌, inl, inr}
-use Rattle.std.proofs.lemmas.Bool.{eq-eqb, eqb-true}
+use Rattle.std.proofs.lemmas.Bool.{eqb-true}
 use Rattle.signal_model.proofs.Shared.{tested}
 use Rattle.effect_model.specs.Owners.{Thing, the_signal, the_owner, the_effect, the_page, the_watcher, Owned, nothing, thing, cleanup, emptied, put_under, same_thing, taken_out, under, with_earlier}
+use Rattle.effect_laws.proofs.Shared.{same_self}
 use Rattle.sig_owner.specs.Renames.{renamed, renamed_thing}
 use Rattle.effect_model.specs.Owners.{is_holder, listed}
 use Rattle.effect_teardown.specs.Trees.{CanStand, IsEffect, IsFormed}
@@ -16,13 +17,6 @@ same_is (the_effect m) (the_effect n) e = ap the_effect (eqb-true m n e)
 same_is (the_page m) (the_page n) e = ap the_page (eqb-true m n e)
 same_is (the_watcher m) (the_watcher n) e = ap the_watcher (eqb-true m n e)
 same_is _ _ e = cc
-
-pub same_self : (t : Thing) → same_thing t t ≡ true
-same_self (the_signal n) = eq-eqb n n refl
-same_self (the_owner n) = eq-eqb n n refl
-same_self (the_effect n) = eq-eqb n n refl
-same_self (the_page n) = eq-eqb n n refl
-same_self (the_watcher n) = eq-eqb n n refl
 
 true_false : (b : Bool) → b ≡ true → b ≡ false → ⊥
 true_false true p q = cc

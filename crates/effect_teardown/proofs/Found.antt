@@ -13,16 +13,13 @@ use Rattle.effect_tables.specs.declared.tables.Tables.{Tables}
 use Rattle.effect_tables.specs.Consistency.{TablesAgree, IsEffect, IsOwner}
 use Rattle.effect_tables.specs.Owners.{is_row, living}
 use Rattle.effect_tables.specs.Placed.{numbering}
-use Rattle.effect_tables.proofs.Shared.{IsNowhere, IsPlace, lives_at, number_at}
+use Rattle.effect_tables.proofs.Shared.{IsNowhere, IsPlace, lives_at, number_at, some_one}
 use Rattle.effect_teardown.specs.Rows.{effect_row}
 
 -- a thing lives in this row
 pub record IsFound (rows : List Row) (n : ℕ) (t : Thing) : Type 0 where
   pub lives : live_at rows n ≡ true
   pub thing : thing_at rows n ≡ t
-
-some_row : (m n : ℕ) → Some m ≡ Some n → m ≡ n
-some_row m n e = cc
 
 pub effect_found : (rows : List Row) (n r : ℕ) (xs : List Effect) → Some r ≡ effect_row n xs → AllByRecursion (IsEffect rows) xs → IsFound rows r (the_effect n)
 effect_found rows n r [] e all = cc
@@ -31,7 +28,7 @@ effect_found rows n r (x ∷ xs) e all = go (n == x.id) refl e (effect_found row
     go : (b : Bool) → (n == x.id) ≡ b → Some r ≡ cond b (Some x.row) (effect_row n xs) → (Some r ≡ effect_row n xs → AllByRecursion (IsEffect rows) xs → IsFound rows r (the_effect n)) →
         IsFound rows r (the_effect n)
     go true q h more =
-        let row : r ≡ x.row = some_row r x.row h in
+        let row : r ≡ x.row = some_one r x.row h in
         record { lives = ap (live_at rows) row ∙ all.0.lives; thing = ap (thing_at rows) row ∙ all.0.thing ∙ ap the_effect (sym (eqb-true n x.id q)) }
     go false q h more = more h all.1
 

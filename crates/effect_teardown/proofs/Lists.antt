@@ -17,7 +17,7 @@ use Rattle.effect_tables.specs.declared.thing.Thing.{Thing}
 use Rattle.effect_tables.specs.Consistency.{AreOrdered, AreRising, HasOwnRow, HaveOwnRows}
 use Rattle.effect_tables.specs.Owners.{closed_at, has_row, is_row, living, number_in}
 use Rattle.effect_tables.specs.Placed.{effect_of}
-use Rattle.effect_tables.proofs.Shared.{IsNowhere, IsPlace, left_off, living_below, none_behind, off_on, right_off, row_is, swapped}
+use Rattle.effect_tables.proofs.Shared.{IsNowhere, IsPlace, all_filtered, left_off, living_below, none_behind, off_on, right_off, row_is, swapped}
 use Rattle.effect_teardown.specs.Ends.{effects_after, effects_without, forgotten, owners_after, owners_without, pages_after, pages_without, things_after, things_without}
 use Rattle.effect_teardown.specs.Rows.{effect_row}
 
@@ -280,16 +280,8 @@ all_any P (x ∷ xs) p = (p x, all_any P xs p)
 
 -- ---- effects that live don't end
 
-all_filter : {A : Type 0} (P : A → Type 0) (f : A → Bool) (xs : List A) → AllByRecursion P xs → AllByRecursion P (filter f xs)
-all_filter P f [] all = tt
-all_filter P f (x ∷ xs) all = go (f x) (all_filter P f xs all.1)
-  where
-    go : (b : Bool) → AllByRecursion P (filter f xs) → AllByRecursion P (cond b (x ∷ filter f xs) (filter f xs))
-    go true more = (all.0, more)
-    go false more = more
-
 effects_all : (P : Effect → Type 0) (u : Undoing) (xs : List Effect) → AllByRecursion P xs → AllByRecursion P (effects_without u xs)
-effects_all P (ends (the_effect n)) xs all = all_filter P (λ x. not (n == x.id)) xs all
+effects_all P (ends (the_effect n)) xs all = all_filtered P (λ x. not (n == x.id)) xs all
 effects_all P (ends (the_signal n)) xs all = all
 effects_all P (ends (the_owner n)) xs all = all
 effects_all P (ends (the_page n)) xs all = all

@@ -32,6 +32,7 @@ use Rattle.sig_state.specs.declared.sets.SetDone.TheVariants.{Accepted, Same}
 use Rattle.sig_watcher.specs.declared.recipients.Told.{Told}
 use Rattle.sig_effect.specs.declared.events.Event.{Event}
 use Rattle.sig_effect.specs.declared.events.Event.TheVariants as event
+use Rattle.effect_laws.proofs.Shared.{both}
 use Rattle.effect_tables.specs.declared.thing.Thing.TheVariants as thing
 use Rattle.sig_effect.specs.Events.{AreTold, IsTold, Tells}
 use Rattle.sig_effect.specs.Results.{drop_events, dropped_if, AreFrozen, AreNotices, IsFrozen}
@@ -40,7 +41,7 @@ use Rattle.sig_effect.specs.Stores.{environment, Agrees, AreListed, AreOwn, AreU
 use Rattle.sig_effect.proofs.Signals.{gone_now, left_now, recipe_beside, recipe_now, value_host}
 use Rattle.sig_effect.proofs.Signals.{listed_left, listed_recipe, listed_value, watched_left, watched_still, recipe_keeps, value_keeps, idle_left}
 use Rattle.sig_effect.proofs.Users.{host_same, IsEdit, states_after, there_after, unasked_after, own_after, left_count, use_states, drop_states, none_some}
-use Rattle.sig_effect.proofs.Watched.{all_mapped, all_without, both}
+use Rattle.sig_effect.proofs.Watched.{all_mapped, all_without}
 use Rattle.sig_effect.proofs.Acts.{does_by, free_place, fresh_place, tells_none, IsWhole}
 
 -- signals that aren't all gone are all there

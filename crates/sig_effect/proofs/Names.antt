@@ -1,5 +1,5 @@
 -- What events name was made.
-use Rattle.std.proofs.Common.{◌≡◌, ◌==◌, ◌<◌, ◌≤◌, ◌+◌, ◌++◌, ℕ, zero, suc, Bool, true, false, cond, List, [], ◌∷◌, map, Option, Some, None, refl, sym, subst, ◌∙◌, arith, inl, inr}
+use Rattle.std.proofs.Common.{◌≡◌, ◌==◌, ◌<◌, ◌≤◌, ◌+◌, ◌++◌, ℕ, zero, suc, Bool, true, List, [], ◌∷◌, map, Option, Some, None, refl, sym, subst, ◌∙◌, arith, inl, inr}
 use Rattle.std.specs.List.{All, AllByRecursion, filter}
 use Rattle.std.proofs.lemmas.Bool.{eqb-true}
 use Rattle.std.proofs.lemmas.List.Elements.{All-append, All-from_recursion}
@@ -19,6 +19,7 @@ use Rattle.sig_watcher.specs.Notices.{told_entry}
 use Rattle.sig_watcher.proofs.Shared.{entries_told, entries_frozen}
 use Rattle.sig_effect.specs.declared.events.Event.{Event}
 use Rattle.sig_effect.specs.declared.events.Event.TheVariants as event
+use Rattle.effect_tables.proofs.Shared.{all_filtered}
 use Rattle.effect_tables.specs.declared.thing.Thing.{Thing}
 use Rattle.effect_tables.specs.declared.thing.Thing.TheVariants as thing
 use Rattle.sig_effect.specs.Events.{AreNamed, IsNamed}
@@ -118,14 +119,6 @@ alive_below xs n made h here = go xs (numbers_below 0 xs made h.rising) here
       | inl q ↦ let same : n ≡ y.number = eqb-true n y.number q in let b : y.number < made = all.0 in omega (arith, same, b)
       | inr q ↦ go ys all.1 q
     ]
-
-all_filtered : {A : Type 0} (P : A → Type 0) (f : A → Bool) (xs : List A) → AllByRecursion P xs → AllByRecursion P (filter f xs)
-all_filtered P f [] all = tt
-all_filtered P f (x ∷ xs) all = go (f x) (all_filtered P f xs all.1)
-  where
-    go : (b : Bool) → AllByRecursion P (filter f xs) → AllByRecursion P (cond b (x ∷ filter f xs) (filter f xs))
-    go true more = (all.0, more)
-    go false more = more
 
 numbers_of : (made : ℕ) (xs : List Watcher) → AllByRecursion (λ (x : Watcher). x.number < made) xs → AllByRecursion (λ (n : ℕ). n < made) (map (λ (x : Watcher). x.number) xs)
 numbers_of made [] all = tt

@@ -20,6 +20,6 @@ pub use Rattle.sig_effect.proofs.Acts.{free_place}
 pub use Rattle.sig_effect.proofs.HostStates.{free_at, free_else, free_then}
 pub use Rattle.sig_effect.proofs.Users.{uses_by}
 -- what is watched stands
-pub use Rattle.sig_effect.proofs.Watched.{both, watched_armed, watched_less}
+pub use Rattle.sig_effect.proofs.Watched.{watched_armed, watched_less}
 -- what events name was made, and numbers of watchers that live
 pub use Rattle.sig_effect.proofs.Names.{alive_below, named_changed, named_ended, named_gone, named_left, named_still, none_given, notices_named, runs_behind}

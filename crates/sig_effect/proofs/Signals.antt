@@ -18,7 +18,8 @@ use Rattle.sig_nodes.specs.Answers.{host_here, rule_here}
 use Rattle.sig_nodes.specs.States.{Progress, Seen, is_given, progress_at}
 use Rattle.sig_state.specs.Equality.{IsRuled}
 use Rattle.sig_effect.specs.Stores.{AreListed, AreRuled, AreWatched}
-use Rattle.sig_effect.proofs.Watched.{all_behind, all_mapped, all_weaker, in_apart, in_left}
+use Rattle.effect_tables.proofs.Shared.{all_behind, all_weaker}
+use Rattle.sig_effect.proofs.Watched.{all_mapped, in_apart, in_left}
 
 -- ---- what stands
 

@@ -1,5 +1,5 @@
 -- What is watched stands, whoever watches it.
-use Rattle.std.proofs.Common.{◌≡◌, ◌==◌, ◌||◌, ◌&&◌, ◌++◌, ℕ, Bool, true, false, cond, List, [], ◌∷◌, map, refl, ap, ◌∙◌, arith, ◌⊎◌, inl, inr}
+use Rattle.std.proofs.Common.{◌≡◌, ◌==◌, ◌||◌, ◌++◌, ℕ, Bool, true, false, cond, List, [], ◌∷◌, map, refl, ap, ◌∙◌, arith, ◌⊎◌, inl, inr}
 use Rattle.std.proofs.lemmas.Bool.{eqb-true}
 use Rattle.std.proofs.lemmas.Bool.Decides.{nat_tests}
 use Rattle.std.specs.List.{AllByRecursion}
@@ -8,6 +8,7 @@ use Rattle.signal_model.proofs.Shared.{either, or_left, or_right}
 use Rattle.effect_model.specs.Worlds.{Watcher}
 use Rattle.effect_model.specs.Acts.{forget}
 use Rattle.effect_model.specs.Commands.{also_watched, armed}
+use Rattle.effect_laws.proofs.Shared.{both}
 use Rattle.sig_nodes.specs.States.{are_there}
 use Rattle.sig_effect.specs.Stores.{AreWatched}
 
@@ -40,16 +41,6 @@ all_without P name n (x ∷ xs) all = go (n == name x) (all_without P name n xs 
     go : (b : Bool) → AllByRecursion P (without name n xs) → AllByRecursion P (cond b (without name n xs) (x ∷ without name n xs))
     go true more = more
     go false more = (all.0, more)
-
--- where one is put behind
-pub all_behind : {A : Type 0} (P : A → Type 0) (xs : List A) (x : A) → AllByRecursion P xs → P x → AllByRecursion P (xs ++ x ∷ [])
-all_behind P [] x all one = (one, tt)
-all_behind P (y ∷ ys) x all one = (all.0, all_behind P ys x all.1 one)
-
--- a fact that follows from another
-pub all_weaker : {A : Type 0} (P Q : A → Type 0) (xs : List A) → ((x : A) → P x → Q x) → AllByRecursion P xs → AllByRecursion Q xs
-all_weaker P Q [] keeps all = tt
-all_weaker P Q (x ∷ xs) keeps all = (keeps x all.0, all_weaker P Q xs keeps all.1)
 
 -- ---- names in lists
 
@@ -92,11 +83,6 @@ in_behind k m (n ∷ ns) h = elim (either (k == n) (is_in k (ns ++ m ∷ [])) h)
     | inr q ↦ inr q
   ]
 ]
-
--- both of two tests
-pub both : (a b : Bool) → (a && b) ≡ true → (a ≡ true) × (b ≡ true)
-both true b h = (refl, h)
-both false b h = cc
 
 -- ---- what is watched
 

@@ -10,7 +10,7 @@ use Rattle.sig_effect.specs.Stores.{AreRuled}
 use Rattle.effect_model.specs.declared.how.How.TheVariants.{Rewire}
 use Rattle.signal_model.specs.Signals.{Signals, is_there, standing}
 use Rattle.sig_nodes.proofs.Shared.{given_same}
-use Rattle.sig_effect.proofs.Shared.{both}
+use Rattle.effect_laws.proofs.Shared.{both}
 use Rattle.sig_effect.proofs.Shared.{named_changed, named_left, named_still}
 use Rattle.sig_effect.proofs.Shared.{uses_by}
 use Rattle.effect_model.specs.Acts.{host_of, rewire_signal}
