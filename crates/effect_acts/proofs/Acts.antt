@@ -1,5 +1,5 @@
 -- What acts leave.
-use Rattle.std.proofs.Common.{◌≡◌, ℕ, ◌+◌, ◌≤◌, ◌++◌, ◌&&◌, not, Bool, true, false, List, [], ◌∷◌, length, Some, None, cond, refl, sym, ap, subst, ◌∙◌, arith}
+use Rattle.std.proofs.Common.{◌≡◌, ℕ, ◌+◌, ◌≤◌, ◌++◌, ◌&&◌, not, Bool, true, false, List, [], ◌∷◌, length, cond, refl, sym, ap, subst, ◌∙◌, arith}
 use Rattle.signal_model.specs.Recipes.{Hosts}
 use Rattle.effect_model.specs.Acts.{dispose_live, dispose_thing}
 use Rattle.effect_model.specs.Owners as owning
@@ -29,7 +29,7 @@ use Rattle.effect_world.specs.Stores.{Agrees, Does, IsSound}
 use Rattle.sig_effect.specs.Events.{IsTold, Tells}
 use Rattle.effect_world.specs.Wholes.{stores_of, whole_of}
 use Rattle.effect_world.proofs.Shared.{one_told, owned_still, signals_done, tells_one}
-use Rattle.effect_acts.specs.Acts.{Acted}
+use Rattle.effect_world.specs.Answers.{Acted}
 
 -- one event is told of a world that stays as it is
 told_does : (hosts : Hosts) (asked : List HostPlace) (old : World) (before after : List Event) (ev : Event) (t : plain.Event) (act : plain.World → plain.World) → after ≡ before ++ ev ∷ [] →
@@ -179,9 +179,6 @@ noted_takes t later e n c h f is ends =
     (renamed_put (numbering t) (number_apart t.owners.items) (owning.the_effect e) (owning.cleanup c owning.nothing) (owned_of t.store))
     (record { formed = formed_put (owning.the_owner 0) (owning.the_effect e) (owning.cleanup c owning.nothing) (tree_of t) refl (tt, tt) f.formed })
 
-none_some : (k : ℕ) → None ≡ Some k → ⊥
-none_some k e = cc
-
 pub acted_noted : (slacks : List ℕ) (old : World) (later : List Row) (asked : List HostPlace) (before after : List Event) (e n : ℕ) (c : owning.Cleanup) → thing_at old.tables.store n ≡ owning.the_effect e →
     EndsIn old.tables.store later [] (put_under (thing_at old.tables.store n) (owning.cleanup c owning.nothing) (owned_of old.tables.store)) → after ≡ before ++ event.Noted e ∷ [] → Agrees asked old →
     Acted slacks (scene old asked before) (scene (record old { tables = record (old.tables) { store = later } }) asked after) any_hosts any_hosts 0 (λ env w. tell (plain.noted (owning.the_effect e) c) (with_note e c w))
@@ -201,7 +198,7 @@ acted_noted slacks old later asked before after e n c is ends more a =
         owned = record {
           tables = takes.holds;
           formed = subst AreFormed (sym takes.tree) takes.formed;
-          fresh = λ k l. takes.signals.still k (λ q. none_some k q) (a.owned.fresh k l);
+          fresh = λ k l. takes.signals.still k (λ q. cc) (a.owned.fresh k l);
         };
       };
       answers = λ hosts h. h;

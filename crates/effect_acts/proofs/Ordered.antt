@@ -13,7 +13,7 @@ use Rattle.sig_untrack.specs.declared.body.Act.{Act as AnAct}
 use Rattle.sig_untrack.specs.Links.{Parts, act_of, acts_of}
 use Rattle.effect_world.specs.Signals.{Scene}
 use Rattle.effect_world.specs.Stores.{Agrees}
-use Rattle.effect_acts.specs.Acts.{Acted}
+use Rattle.effect_world.specs.Answers.{Acted}
 use Rattle.effect_acts.proofs.Shared.{acted_lent}
 use Rattle.effect_acts.specs.Labels.{labelled}
 use Rattle.effect_acts.proofs.Sequences.{acted_then}

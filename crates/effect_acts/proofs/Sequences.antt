@@ -13,7 +13,7 @@ use Rattle.effect_world.specs.Stores.{Agrees, Does}
 use Rattle.sig_effect.specs.Events.{Tells}
 use Rattle.effect_world.specs.Wholes.{whole_of}
 use Rattle.effect_world.proofs.Shared.{tells_both}
-use Rattle.effect_acts.specs.Acts.{Acted}
+use Rattle.effect_world.specs.Answers.{Acted}
 
 -- where what stands is formed, nothing stands under what can't own
 none_under : (t : Thing) (made : Owned) → is_holder t ≡ false → CanStand t made → made ≡ nothing

@@ -1,5 +1,5 @@
 -- What acts leave of the tables.
-use Rattle.std.proofs.Common.{◌≡◌, ℕ, ◌+◌, ◌≤◌, ◌++◌, List, [], ◌∷◌, length, Some, None, refl, sym, ap, subst, ◌∙◌, arith}
+use Rattle.std.proofs.Common.{◌≡◌, ℕ, ◌+◌, ◌≤◌, ◌++◌, List, [], ◌∷◌, length, None, refl, sym, ap, subst, ◌∙◌, arith}
 use Rattle.effect_model.specs.Bodies.{Body}
 use Rattle.effect_model.specs.Owners.{Owned, alone, put_under, the_effect, the_owner, the_signal}
 use Rattle.effect_model.specs.Worlds as plain
@@ -24,7 +24,7 @@ use Rattle.effect_world.specs.Stores.{Agrees, AreOwned}
 use Rattle.sig_effect.specs.Events.{IsTold, Tells}
 use Rattle.effect_world.specs.Wholes.{stores_of, whole_of}
 use Rattle.effect_world.proofs.Shared.{one_told, tells_one}
-use Rattle.effect_acts.specs.Acts.{Acted}
+use Rattle.effect_world.specs.Answers.{Acted}
 
 -- the tables were changed, and one event told
 pub acted_tabled : (slacks : List ℕ) (old : World) (u : Tables) (asked : List HostPlace) (before after : List Event) (ev : Event) (t : plain.Event)
@@ -61,9 +61,6 @@ owned_kept old u store owners h o =
       fresh = λ n l. ap (λ rs. has_thing (the_signal n) (owned_of rs)) store ∙ o.fresh n l;
     }
 
-none_some : (k : ℕ) → None ≡ Some k → ⊥
-none_some k e = cc
-
 -- a child stands under its parent
 pub owned_child : (asked : List HostPlace) (old : World) (u : Tables) (e : ℕ) (b : Body) → ((w : plain.World) → placed u w ≡ with_child e b (placed old.tables w)) → LeavesOut None old.tables.store u.store → TablesAgree u →
     AreOwned old → AreOwned (record old { tables = u })
@@ -74,5 +71,5 @@ owned_child asked old u e b does out h o =
     record {
       tables = h;
       formed = subst AreFormed (sym tree) (record { formed = formed_put (the_owner 0) (the_effect e) one (tree_of old.tables) refl (tt, tt, tt) o.formed.formed });
-      fresh = λ n l. out.still n (λ q. none_some n q) (o.fresh n l);
+      fresh = λ n l. out.still n (λ q. cc) (o.fresh n l);
     }

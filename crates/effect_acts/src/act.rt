@@ -1,7 +1,6 @@
 // The acts of a run.
-ghost use Rattle.std.specs.Prelude.{◌≡◌, ◌+◌, ◌<◌, ◌^◌, ℕ, List, IfOk, OnOk, length, map};
+ghost use Rattle.std.specs.Prelude.{◌+◌, ◌<◌, ◌^◌, ℕ, List, OnOk, length, map};
 ghost use Rattle.std.specs.Rc.{rc_value};
-ghost use Rattle.sig_base.specs.Values.{scalar_value};
 ghost use Rattle.effect_model.specs.Bodies.{to_make, to_note};
 ghost use Rattle.effect_model.specs.Runs.{do_act};
 ghost use Rattle.sig_untrack.specs.Links.{act_of};
@@ -13,7 +12,7 @@ ghost use Rattle.sig_effect.specs.Stores.{AreRuled};
 ghost use Rattle.effect_world.specs.Signals.{any_hosts, scene};
 ghost use Rattle.effect_world.specs.Stores.{Agrees, AreOwned};
 ghost use Rattle.effect_world.specs.Costs.{weight};
-ghost use Rattle.effect_acts.specs.Acts.{Acted};
+ghost use Rattle.effect_world.specs.Answers.{Acted};
 ghost use Rattle.effect_acts.specs.Rewires.{rewire_meant};
 
 use crate::cells::set;
@@ -25,19 +24,11 @@ use crate::messages::log;
 use crate::recipes::rewire;
 use effect_tables::{Links, Site};
 use effect_world::World;
-use sig_base::{EffectId, NoMemory, Scalar, Value};
+use sig_base::{EffectId, NoMemory};
 use sig_effect::Event;
 use sig_host::{EqualsRule, Lent, Shelf};
 use sig_owner::CleanupAct;
 use sig_untrack::{Act, Body};
-
-/// The value that a scalar is.
-pub(crate) fn value_like(scalar: &Scalar) -> Result<Value, NoMemory>
-    ensures { IfOk result (λ v. v ≡ scalar_value scalar.now) }
-{
-    let scalar = scalar.copy()?;
-    Ok(Value::from(scalar))
-}
 
 // Notes a cleanup under an effect that lives.
 fn note_there(
@@ -146,13 +137,18 @@ pub fn do_act(
 {
     match act {
         Act::Set(target, scalar) => {
-            let cell = cell_at(site.origin, &links.targets, *target);
-            let value = value_like(scalar)?;
-            set(world, rules, cell, value, events)?;
+            set(
+                world,
+                rules,
+                site.origin,
+                &links.targets,
+                *target,
+                scalar,
+                events,
+            )?;
             Ok(())
         }
         Act::Log(value) => {
-            let value = value.copy()?;
             log(world, value, events)?;
             Ok(())
         }

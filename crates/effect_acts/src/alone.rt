@@ -1,6 +1,6 @@
 // The acts of a body that belongs to no effect.
 ghost use Rattle.std.specs.Prelude.{◌≡◌, ◌<◌, ◌^◌, List, OnOk, length, map};
-ghost use Rattle.effect_acts.specs.Acts.{Acted};
+ghost use Rattle.effect_world.specs.Answers.{Acted};
 ghost use Rattle.effect_acts.specs.Alone.{AreCells};
 ghost use Rattle.effect_model.specs.Alone.{act_alone};
 ghost use Rattle.effect_world.specs.Signals.{any_hosts, scene};
@@ -9,9 +9,7 @@ ghost use Rattle.sig_effect.specs.Stores.{AreRuled};
 ghost use Rattle.sig_host.specs.Hosts.{HostPlace};
 ghost use Rattle.sig_untrack.specs.Links.{Parts, act_of};
 
-use crate::act::value_like;
 use crate::cells::set;
-use crate::changes::cell_at;
 use crate::messages::log;
 use effect_tables::Target;
 use effect_world::World;
@@ -40,13 +38,18 @@ pub fn do_alone(
 {
     match act {
         Act::Set(target, scalar) => {
-            let cell = cell_at(EffectId::of(0), targets, *target);
-            let value = value_like(scalar)?;
-            set(world, rules, cell, value, events)?;
+            set(
+                world,
+                rules,
+                EffectId::of(0),
+                targets,
+                *target,
+                scalar,
+                events,
+            )?;
             Ok(())
         }
         Act::Log(value) => {
-            let value = value.copy()?;
             log(world, value, events)?;
             Ok(())
         }

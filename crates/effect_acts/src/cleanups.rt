@@ -11,7 +11,7 @@ ghost use Rattle.effect_teardown.specs.Rows.{is_tabled};
 ghost use Rattle.effect_teardown.specs.Teardowns.{EndsIn};
 ghost use Rattle.effect_world.specs.Signals.{any_hosts, scene};
 ghost use Rattle.effect_world.specs.Stores.{Agrees, AreOwned};
-ghost use Rattle.effect_acts.specs.Acts.{Acted};
+ghost use Rattle.effect_world.specs.Answers.{Acted};
 
 use effect_teardown::effect_row;
 use effect_world::World;

@@ -6,7 +6,7 @@ ghost use Rattle.sig_effect.specs.Stores.{AreRuled};
 ghost use Rattle.sig_effect.specs.declared.events.Event.TheVariants as event;
 ghost use Rattle.effect_world.specs.Signals.{scene};
 ghost use Rattle.effect_world.specs.Stores.{Agrees};
-ghost use Rattle.effect_acts.specs.Acts.{Acted};
+ghost use Rattle.effect_world.specs.Answers.{Acted};
 
 use effect_tables::Thing;
 use effect_world::World;

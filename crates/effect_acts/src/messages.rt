@@ -4,22 +4,23 @@ ghost use Rattle.effect_model.specs.Worlds.{failed, logged, tell};
 ghost use Rattle.sig_host.specs.Hosts.{HostPlace};
 ghost use Rattle.effect_world.specs.Signals.{any_hosts, scene};
 ghost use Rattle.effect_world.specs.Stores.{Agrees};
-ghost use Rattle.effect_acts.specs.Acts.{Acted};
+ghost use Rattle.effect_world.specs.Answers.{Acted};
 
 use effect_world::World;
 use sig_base::{EffectId, Fault, NoMemory, Value};
 use sig_effect::Event;
 
-/// Logs a value.
+/// Logs a copy of a value.
 ///
 /// # Errors
 ///
 /// `NoMemory` where memory ran out; then the events may only be dropped.
-pub fn log(world: &World, value: Value, events: &mut Vec<Event>) -> Result<(), NoMemory>
+pub fn log(world: &World, value: &Value, events: &mut Vec<Event>) -> Result<(), NoMemory>
     ensures { (asked : List HostPlace) (slacks : List ℕ) → Agrees asked world.now → OnOk result
-        (Acted slacks (scene world.now asked events.old.items) (scene world.now asked events.new.items) any_hosts any_hosts 0 (λ env. tell (logged value))) }
+        (Acted slacks (scene world.now asked events.old.items) (scene world.now asked events.new.items) any_hosts any_hosts 0 (λ env. tell (logged value.now))) }
 {
-    events.push(Event::Log(value))?;
+    let copied = value.copy()?;
+    events.push(Event::Log(copied))?;
     Ok(())
 }
 

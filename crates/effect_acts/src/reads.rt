@@ -4,7 +4,7 @@ ghost use Rattle.effect_model.specs.Runs.{keep_reads};
 ghost use Rattle.sig_host.specs.Hosts.{HostPlace};
 ghost use Rattle.effect_world.specs.Signals.{any_hosts, scene};
 ghost use Rattle.effect_world.specs.Stores.{Agrees, AreOwned};
-ghost use Rattle.effect_acts.specs.Acts.{Acted};
+ghost use Rattle.effect_world.specs.Answers.{Acted};
 
 use effect_world::World;
 use sig_base::{EffectId, NoMemory};

@@ -1,15 +1,15 @@
 // An effect gives a computed another recipe.
 ghost use Rattle.std.specs.Prelude.{◌≡◌, ℕ, true, false, List, None, IfNone, IfSome, OnOk};
-ghost use Rattle.std.specs.List.{All};
-ghost use Rattle.signal_model.specs.Signals.{standing, is_cell};
+ghost use Rattle.signal_model.specs.Signals.{is_cell, standing};
 ghost use Rattle.effect_model.specs.Acts.{host_of, host_refused, rewire_signal, rewiring_refused};
 ghost use Rattle.sig_nodes.specs.Answers.{expression_of, HasFewSlots};
 ghost use Rattle.sig_nodes.specs.Computations.{recipe_made};
-ghost use Rattle.sig_nodes.specs.States.{is_given, CanWear};
+ghost use Rattle.sig_nodes.specs.States.{CanWear};
 ghost use Rattle.effect_world.specs.Signals.{scene};
 ghost use Rattle.effect_world.specs.Stores.{Agrees};
 ghost use Rattle.effect_world.specs.Wholes.{whole_of};
-ghost use Rattle.effect_acts.specs.Acts.{first_gone, Acted, IsRefusal};
+ghost use Rattle.effect_acts.specs.Acts.{first_gone, IsRefusal};
+ghost use Rattle.effect_world.specs.Answers.{Acted, CanRewire};
 
 use effect_tables::Thing;
 use effect_world::World;
@@ -70,9 +70,7 @@ fn refusal(
     }
 }
 
-// Gives a computed another recipe, where that isn't refused. Most of its clauses ask for something that may fail by itself: a computed,
-// slots that were made and are few, room in the counters, stores that belong together with the shelf and its counts, and that nothing
-// refuses it.
+// Gives a computed another recipe, where that isn't refused.
 fn change(
     world: &mut World,
     shelf: &mut Shelf,
@@ -81,13 +79,9 @@ fn change(
     slots: Vec<NodeId>,
     events: &mut Vec<Event>,
 ) -> Result<(), NoMemory>
-    requires kind { is_cell (standing world.old.graph.state.signals id) ≡ false }
-    requires given { All (λ n. is_given world.old.graph n ≡ true) slots.items }
-    requires few { HasFewSlots (expression_of recipe) slots.items }
-    requires worn { CanWear world.old.graph.state }
+    requires can { CanRewire (⟦<Shelf as Lent>⟧.asked shelf.old) world.old id (expression_of recipe) slots.items }
     requires agrees { Agrees (⟦<Shelf as Lent>⟧.asked shelf.old) world.old }
     requires counted { ⟦<Shelf as Lent>⟧.counted shelf.old }
-    requires open { rewiring_refused id (recipe_made (expression_of recipe) slots.items) (whole_of (⟦<Shelf as Lent>⟧.asked shelf.old) world.old) ≡ None }
     ensures done { (slacks : List ℕ) → OnOk result (Acted slacks
         (scene world.old (⟦<Shelf as Lent>⟧.asked shelf.old) events.old.items) (scene world.new (⟦<Shelf as Lent>⟧.asked shelf.new) events.new.items)
         (λ hosts. ⟦<Shelf as Lent>⟧.answers hosts shelf.old) (λ hosts. ⟦<Shelf as Lent>⟧.answers hosts shelf.new) 1

@@ -24,7 +24,7 @@ use Rattle.sig_effect.specs.Events.{Tells}
 use Rattle.effect_world.specs.Costs.{weight}
 use Rattle.effect_world.specs.Wholes.{stores_of, whole_of}
 use Rattle.effect_world.proofs.Shared.{owned_still, settle_done}
-use Rattle.effect_acts.specs.Acts.{Acted}
+use Rattle.effect_world.specs.Answers.{Acted}
 use Rattle.effect_turns.specs.Runs.{CanHear, CanRun, Runs, Spends}
 
 -- ---- the same act in other words

@@ -13,7 +13,7 @@ use Rattle.effect_runs.specs.declared.run.BodyEnd.TheVariants.{Acts, Fail}
 use Rattle.effect_runs.specs.Evaluations.{result_of}
 use Rattle.effect_world.specs.Signals.{Scene, any_hosts}
 use Rattle.effect_world.specs.Wholes.{whole_of}
-use Rattle.effect_acts.specs.Acts.{Acted}
+use Rattle.effect_world.specs.Answers.{Acted}
 use Rattle.effect_turns.specs.Runs.{Runs}
 use Rattle.effect_turns.proofs.Carried.{acted_runs, runs_any, runs_as}
 

@@ -30,7 +30,7 @@ use Rattle.effect_runs.specs.Evaluations.{body_seen, result_of, IsRunOf}
 use Rattle.effect_world.specs.Signals.{Scene, any_hosts}
 use Rattle.effect_world.specs.Stores.{Agrees, IsSound}
 use Rattle.effect_world.specs.Wholes.{whole_of}
-use Rattle.effect_acts.specs.Acts.{Acted}
+use Rattle.effect_world.specs.Answers.{Acted}
 use Rattle.effect_turns.specs.Runs.{Runs}
 use Rattle.effect_turns.proofs.Carried.{acted_runs, runs_any, runs_as, runs_still}
 use Rattle.effect_turns.proofs.Sequences.{runs_then}

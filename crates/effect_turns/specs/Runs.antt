@@ -36,3 +36,15 @@ pub record CanHear (x : Scene) : Type 0 where
   pub agrees : Agrees x.asked x.world
   pub weight : weight x.world < 2 ^ 125 + 128 * length x.events
   pub room : most_asked x.asked < 2 ^ 125 + 128 * length x.events
+
+-- Acts of an effect may be done: the stores belong together, the rule of each cell is one of so many, and the counters have room.
+pub record MayAct (rules : ℕ) (x : Scene) : Type 0 where
+  pub agrees : Agrees x.asked x.world
+  pub ruled : AreRuled rules x.world.graph.state.signals
+  pub worn : weight x.world < 2 ^ 125
+
+-- No more was used up than what was told stands for, and so much.
+pub record Uses (old new : Scene) (steps : ℕ) : Type 0 where
+  pub worn : weight new.world + length old.events ≤ weight old.world + length new.events + steps
+  pub told : length old.events ≤ length new.events
+  pub most : most_asked new.asked ≤ most_asked old.asked

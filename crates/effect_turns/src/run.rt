@@ -13,7 +13,7 @@ ghost use Rattle.effect_tables.specs.Bodies.{body_of, no_body};
 ghost use Rattle.effect_tables.specs.declared.links.Links.TheViews.{out-Links};
 ghost use Rattle.effect_tables.specs.declared.effect.TheConstants.{MOST_STATEMENTS};
 ghost use Rattle.effect_teardown.specs.Sites.{IsPart, parts_of};
-ghost use Rattle.sig_host.specs.Hosts.{most_asked, HostPlace};
+ghost use Rattle.sig_host.specs.Hosts.{HostPlace};
 ghost use Rattle.sig_untrack.specs.Links.{Parts};
 ghost use Rattle.sig_untrack.specs.Stated.{before, no_bodies, statements_of};
 ghost use Rattle.sig_effect.specs.Stores.{AreRuled};
@@ -21,7 +21,7 @@ ghost use Rattle.effect_runs.specs.Evaluations.{body_seen, result_of, IsRunOf, I
 ghost use Rattle.effect_world.specs.Signals.{any_hosts, scene};
 ghost use Rattle.effect_world.specs.Stores.{Agrees, AreOwned, IsSound};
 ghost use Rattle.effect_world.specs.Costs.{weight};
-ghost use Rattle.effect_turns.specs.Runs.{CanHear, CanRun, Runs, Spends};
+ghost use Rattle.effect_turns.specs.Runs.{CanHear, CanRun, MayAct, Runs, Spends, Uses};
 ghost use Rattle.effect_tables.specs.Visits.{rerun};
 
 use effect_acts::{do_acts, fail, keep_reads};
@@ -96,8 +96,7 @@ pub(crate) fn evaluate(
     Ok(run)
 }
 
-// Does the acts that a body wants done, or tells that it failed. It asks apart for stores that belong together, for a body that is part
-// of its script, and for acts that are few; what was done is one clause, and how far each count came is told by itself.
+// Does the acts that a body wants done, or tells that it failed.
 fn finish(
     world: &mut World,
     shelf: &mut Shelf,
@@ -109,9 +108,7 @@ fn finish(
     end: BodyEnd,
     events: &mut Vec<Event>,
 ) -> Result<(), NoMemory>
-    requires agrees { Agrees (⟦<Shelf as Lent>⟧.asked shelf.old) world.old }
-    requires worn { weight world.old < 2 ^ 125 }
-    requires ruled { AreRuled (length rules.now) world.old.graph.state.signals }
+    requires may { MayAct (length rules.now) (scene world.old (⟦<Shelf as Lent>⟧.asked shelf.old) events.old.items) }
     requires counted { ⟦<Shelf as Lent>⟧.counted shelf.old }
     requires fits { IsFitting (rc_value site.now.script) }
     requires part { IsPart (rc_value site.now.script) site.now.path.items body.now links.now }
@@ -120,9 +117,9 @@ fn finish(
         (scene world.old (⟦<Shelf as Lent>⟧.asked shelf.old) events.old.items) (scene world.new (⟦<Shelf as Lent>⟧.asked shelf.new) events.new.items)
         (λ hosts. ⟦<Shelf as Lent>⟧.answers hosts shelf.old) (λ hosts. ⟦<Shelf as Lent>⟧.answers hosts shelf.new)
         (λ env. do_result env id (result_of (parts_of site.now.origin (rc_value site.now.script) site.now.path.items) end))) }
-    ensures worn { OnOk result (weight world.new + length events.old.items ≤ weight world.old + length events.new.items + MOST_STATEMENTS) }
-    ensures told { OnOk result (length events.old.items ≤ length events.new.items) }
-    ensures most { OnOk result (most_asked (⟦<Shelf as Lent>⟧.asked shelf.new) ≤ most_asked (⟦<Shelf as Lent>⟧.asked shelf.old)) }
+    ensures used { OnOk result (Uses
+        (scene world.old (⟦<Shelf as Lent>⟧.asked shelf.old) events.old.items) (scene world.new (⟦<Shelf as Lent>⟧.asked shelf.new) events.new.items)
+        MOST_STATEMENTS) }
     ensures counted { OnOk result (⟦<Shelf as Lent>⟧.counted shelf.new) }
 {
     match end {

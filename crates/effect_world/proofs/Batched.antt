@@ -6,15 +6,11 @@ use Rattle.effect_model.specs.Worlds as plain
 use Rattle.effect_model.specs.Acts.{with_quiet_value}
 use Rattle.effect_model.specs.Batches.{Batch, abort, commit, give_back, is_other, replaced_by, set_quietly, with_replacing}
 use Rattle.effect_laws.specs.Frames.{IsOfSignals, signal_part, with_part}
-use Rattle.effect_laws.proofs.SharedFrames.{framed_then, part_same}
+use Rattle.effect_laws.proofs.SharedFrames.{framed_quiet, framed_then, part_same}
 
 -- ---- they act on signals
 
--- a cell has another value, of which nobody is notified
-framed_quiet : (n : ℕ) (v : Value) → IsOfSignals (with_quiet_value n v)
-framed_quiet n v = record { framed = λ w. refl }
-
--- so it is where that replaces one
+-- a cell has another value where that replaces one
 framed_replacing : (n : ℕ) (v : Value) (o : Option Value) → IsOfSignals (with_replacing n v o)
 framed_replacing n v None = record { framed = part_same }
 framed_replacing n v (Some before) = framed_quiet n v

@@ -1,5 +1,6 @@
 -- Steps of teardowns, done to the signals.
-use Rattle.std.proofs.Common.{◌≡◌, ℕ, zero, suc, ◌+◌, ◌<◌, ◌==◌, ◌++◌, Bool, true, false, cond, List, [], ◌∷◌, map, length, take, get_or, Some, None, ◌≤◌, refl, sym, ap, subst, ◌∙◌, append_assoc, arith}
+use Rattle.std.proofs.Common.{◌≡◌, ℕ, zero, suc, ◌+◌, ◌<◌, ◌==◌, ◌++◌, Bool, true, false, cond, List, [], ◌∷◌, map, length, take, get_or, ◌≤◌, refl, sym, ap, subst, ◌∙◌, append_assoc, arith, Err, ◌⊎◌, inl, inr}
+use Rattle.std.specs.Prelude.{Result, IfErr}
 use Rattle.std.specs.List.{AllByRecursion}
 use Rattle.std.proofs.lemmas.List.{map-append, take_all, take_more}
 use Rattle.sig_base.specs.declared.value.Value.{Value}
@@ -27,6 +28,8 @@ use Rattle.sig_host.specs.Hosts.{HostPlace, most_asked}
 use Rattle.sig_nodes.specs.Answers.{kind_here}
 use Rattle.sig_nodes.specs.declared.answers.Standing.{Standing}
 use Rattle.sig_nodes.specs.declared.answers.Standing.TheVariants.{Gone, Cell, Computed, Computing}
+use Rattle.sig_owner.specs.declared.errors.OwnFault.{OwnFault}
+use Rattle.sig_owner.specs.declared.errors.OwnFault.TheVariants as own
 use Rattle.sig_effect.specs.declared.events.Event.{Event}
 use Rattle.sig_effect.specs.declared.events.Event.TheVariants as event
 use Rattle.sig_effect.specs.Events.{AreTold, IsTold, Tells}
@@ -374,15 +377,19 @@ gone_tabled asked w (the_page n) q = q
 
 -- ---- the stores afterwards
 
-none_some : (k : ℕ) → None ≡ Some k → ⊥
-none_some k e = cc
-
 pub owned_after : (old new : World) (us : List Undoing) (left : owning.Owned) → Takes old.tables new.tables us left → new.graph.given ≡ old.graph.given → AreOwned old → AreOwned new
 owned_after old new us left takes given o = record {
   tables = takes.holds;
   formed = subst AreFormed (sym takes.tree) takes.formed;
-  fresh = λ n l. takes.signals.still n (λ e. none_some n e) (o.fresh n (subst (λ k. k ≤ n) given l));
+  fresh = λ n l. takes.signals.still n (λ e. cc) (o.fresh n (subst (λ k. k ≤ n) given l));
 }
+
+-- what is refused as gone leaves the tables as they were
+pub untouched : {A : Type 0} (result : Result A OwnFault) (old new : Tables) → result ≡ Err own.Gone → IfErr result (λ e. (e ≡ own.NoMemory) ⊎ (new ≡ old)) → new ≡ old
+untouched {A = A} result old new is err = elim (subst (λ (r : Result A OwnFault). IfErr r (λ e. (e ≡ own.NoMemory) ⊎ (new ≡ old))) is err) [
+  | inl e ↦ cc
+  | inr e ↦ e
+]
 
 -- ---- cleanups are those of effects
 

@@ -1,5 +1,5 @@
 -- What is done to signals alone, or to the tables alone, is done to the world.
-use Rattle.std.proofs.Common.{◌≡◌, ℕ, ◌≤◌, ◌+◌, ◌++◌, Bool, true, false, List, [], ◌∷◌, Option, Some, None, refl, sym, ap, subst, ◌∙◌, arith}
+use Rattle.std.proofs.Common.{◌≡◌, ℕ, ◌≤◌, ◌+◌, ◌++◌, Bool, true, false, List, [], ◌∷◌, Option, Some, None, length, refl, sym, ap, subst, ◌∙◌, arith}
 use Rattle.sig_base.specs.declared.value.Value.{Value}
 use Rattle.signal_model.specs.Recipes.{Hosts, Recipe}
 use Rattle.signal_model.specs.Signals.{Signals, is_in}
@@ -31,6 +31,8 @@ use Rattle.sig_effect.specs.Wholes.{SignalStores}
 use Rattle.sig_effect.proofs.Shared.{tells_none}
 use Rattle.effect_world.specs.declared.world.World.{World}
 use Rattle.effect_world.specs.Stores.{AreOwned, Does, IsSound}
+use Rattle.sig_effect.specs.Events.{AreNamed}
+use Rattle.effect_world.specs.Answers.{Changed}
 use Rattle.effect_world.specs.Signals.{Acts}
 use Rattle.effect_world.specs.Wholes.{stores_of}
 
@@ -68,6 +70,37 @@ owned_still old new given same h = record {
   formed = subst (λ (t : Tables). AreFormed (tree_of t)) (sym same) h.formed;
   fresh = λ n l. ap (λ (t : Tables). has_thing (the_signal n) (owned_of t.store)) same ∙ h.fresh n (subst (λ k. k ≤ n) given l);
 }
+
+-- what was changed among signals is changed in the world
+pub changed_whole : (slacks : List ℕ) (old new : World) (before after : List Event) (steps : ℕ) (act : plain.Environment → plain.World → plain.World) →
+    ((hosts : Hosts) (asked : List HostPlace) → IsSound hosts asked old → Acts hosts asked asked old new before after (act (signals.environment hosts slacks))) →
+    ((asked : List HostPlace) → signals.Agrees asked (stores_of old) → signals.Agrees asked (stores_of new)) → ((env : plain.Environment) → IsOfSignals (act env)) →
+    ((count : ℕ) → signals.AreRuled count old.graph.state.signals → signals.AreRuled count new.graph.state.signals) →
+    (AreNamed old.graph old.watchers.made before → AreNamed new.graph new.watchers.made after) →
+    new.tables ≡ old.tables → new.graph.given ≡ old.graph.given → new.watchers.made ≡ old.watchers.made → new.graph.state.worn ≤ old.graph.state.worn + steps →
+    length before ≤ length after → Changed slacks old new before after steps act
+changed_whole slacks old new before after steps act acts agreed framed rules named same given made worn told = record {
+  acts = acts;
+  agreed = agreed;
+  does = λ hosts asked owned sound.
+      let env : plain.Environment = signals.environment hosts slacks in
+      signals_done hosts asked asked old new before after (act env) (acts hosts asked sound) (framed env) same owned.tables;
+  agrees = λ asked a. record { signals = agreed asked a.signals; owned = owned_still old new given same a.owned };
+  rules = rules;
+  named = named;
+  given = given;
+  made = made;
+  worn = worn;
+  told = told;
+}
+
+-- nothing was changed, and nothing is told
+pub changed_nothing : (slacks : List ℕ) (old new : World) (events : List Event) (steps : ℕ) (act : plain.Environment → plain.World → plain.World) → new ≡ old →
+    ((hosts : Hosts) (asked : List HostPlace) → IsSound hosts asked old → Acts hosts asked asked old old events events (act (signals.environment hosts slacks))) →
+    ((env : plain.Environment) → IsOfSignals (act env)) → Changed slacks old new events events steps act
+changed_nothing slacks old new events steps act is acts framed =
+    subst (λ (w : World). Changed slacks old w events events steps act) (sym is)
+    (changed_whole slacks old old events events steps act acts (λ asked a. a) framed (λ count h. h) (λ h. h) refl refl refl (omega arith) (omega arith))
 
 -- ---- each act on signals
 
@@ -109,10 +142,7 @@ watch_done hosts asked old new n f graph after same h sound =
 
 -- where nothing was made, each cell has its rule
 pub none_ruled : (rules : ℕ) → signals.AreRuled rules no_state.signals
-none_ruled rules = record { each = λ n. record { below = λ rule is. absurd (none_some rule is) } }
-  where
-    none_some : (rule : ℕ) → None ≡ Some rule → ⊥
-    none_some rule e = cc
+none_ruled rules = record { each = λ n. record { below = λ rule is. absurd (cc) } }
 
 -- a watcher that watches nothing is watched for rightly
 pub watched_more : (w : Signals) (xs : List plain.Watcher) (x : plain.Watcher) → x.signals ≡ [] → AreWatched w xs → AreWatched w (xs ++ x ∷ [])
@@ -191,11 +221,8 @@ pub owned_same : (old new : World) (inside : Option ℕ) (t : Thing) → CanStan
 owned_same old new inside t can given tree h out o = record {
   tables = h;
   formed = formed_made old.tables new.tables inside t can tree h o.formed;
-  fresh = λ k l. out.still k (λ e. none_some k e) (o.fresh k (subst (λ g. g ≤ k) given l));
+  fresh = λ k l. out.still k (λ e. cc) (o.fresh k (subst (λ g. g ≤ k) given l));
 }
-  where
-    none_some : (k : ℕ) → None ≡ Some k → ⊥
-    none_some k e = cc
 
 -- a page is made
 pub page_done : (hosts : Hosts) (asked : List HostPlace) (old new : World) (inside : Option ℕ) →

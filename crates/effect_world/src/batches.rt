@@ -1,21 +1,20 @@
 // Changes that are collected while a batch is open: watchers are notified of them together, or they are given back.
-ghost use Rattle.std.specs.Prelude.{◌≡◌, ◌+◌, ◌<◌, ◌≤◌, ◌^◌, ◌⊎◌, ℕ, true, false, List, IfErr, IfOk, IsErrOf, OnOk, length, map};
+ghost use Rattle.std.specs.Prelude.{◌≡◌, ◌<◌, ◌^◌, [], List, IfOk, OnOk, length, map};
 ghost use Rattle.signal_model.specs.Recipes.{Hosts};
-ghost use Rattle.signal_model.specs.Signals.{is_computed, is_there, standing};
+ghost use Rattle.signal_model.specs.Signals.{is_there, standing};
 ghost use Rattle.effect_model.specs.Acts.{is_notified_by_any, notified_by_any, waiting_if};
-ghost use Rattle.effect_model.specs.Batches.{abort, commit, joined_by, set_quietly};
+ghost use Rattle.effect_model.specs.Batches.{abort, commit, set_quietly};
 ghost use Rattle.sig_host.specs.Hosts.{HostPlace};
 ghost use Rattle.sig_state.specs.Batches.{AreRuled as AreRuledIn, HasRoom};
-ghost use Rattle.sig_state.specs.Equality.{is_alike_here, IsRuled};
-ghost use Rattle.sig_effect.specs.declared.errors.EffectFault.TheVariants as fault;
-ghost use Rattle.sig_effect.specs.Stores.{environment, AreRuled, Stays};
+ghost use Rattle.sig_state.specs.Equality.{is_alike_here};
+ghost use Rattle.sig_effect.specs.Stores.{environment};
 ghost use Rattle.sig_effect.specs.Answers.{is_same};
 ghost use Rattle.sig_effect.specs.Events.{AreNamed};
 ghost use Rattle.sig_effect.specs.Results.{AreNotices};
 ghost use Rattle.sig_watcher.specs.Notices.{told_entry};
 ghost use Rattle.sig_watcher.specs.Tables.{with_each};
 ghost use Rattle.effect_world.specs.Stores.{Agrees, AreOwned, Does, IsSound};
-ghost use Rattle.effect_world.specs.Wholes.{stores_of};
+ghost use Rattle.effect_world.specs.Answers.{CanSet, Changed, Collects, Refuses};
 
 use crate::world::World;
 use effect_model::How;
@@ -26,9 +25,7 @@ use sig_state::{Batch, Gone, SetDone, set_in};
 
 impl World {
     /// Gives a cell a value while a batch is open, unless its equality calls it the same as the one that it has: the cell joins the batch
-    /// with its value before. The change is told, and nobody is notified. What it does is told where what is kept is sound for the hosts;
-    /// what the batch holds then, what stays in order, and what a refusal leaves are told whatever the hosts answer, so each is a clause
-    /// of its own.
+    /// with its value before. The change is told, and nobody is notified.
     ///
     /// # Errors
     ///
@@ -41,29 +38,16 @@ impl World {
         value: Value,
         events: &mut Vec<Event>,
     ) -> Result<SetDone, EffectFault>
-        requires owned { AreOwned self.old }
-        requires kind { is_computed (standing self.old.graph.state.signals id) ≡ false }
-        requires ruled { IsRuled (length rules.now) (standing self.old.graph.state.signals id) }
+        requires can { CanSet (length rules.now) (standing self.old.graph.state.signals id) }
         requires worn { self.old.graph.state.worn < 2 ^ 127 }
         requires room { HasRoom id batch.old }
         ensures done { IfOk result (λ d. is_same d ≡ is_alike_here (map (λ r. r.slack) rules.now) (standing self.old.graph.state.signals id) value) }
-        ensures does { (hosts : Hosts) (asked : List HostPlace) → IsSound hosts asked self.old →
-            OnOk result (Does hosts asked asked self.old self.new events.old.items events.new.items
-            (set_quietly (environment hosts (map (λ r. r.slack) rules.now)) id value)) }
-        ensures collects { OnOk result (batch.new.changed
-            ≡ joined_by (map (λ r. r.slack) rules.now) (standing self.old.graph.state.signals id) id value batch.old.changed) }
-        ensures room { OnOk result (length batch.new.changed + batch.new.spare ≡ length batch.old.changed + batch.old.spare) }
-        ensures agrees { (asked : List HostPlace) → Agrees asked self.old → OnOk result (Agrees asked self.new) }
-        ensures rules { (count : ℕ) → AreRuled count self.old.graph.state.signals → OnOk result (AreRuled count self.new.graph.state.signals) }
-        ensures named { AreNamed self.old.graph self.old.watchers.made events.old.items →
-            OnOk result (AreNamed self.new.graph self.new.watchers.made events.new.items) }
+        ensures changed { OnOk result (Changed (map (λ r. r.slack) rules.now)
+            self.old self.new events.old.items events.new.items 1 (λ env. set_quietly env id value)) }
+        ensures collects { OnOk result (Collects (map (λ r. r.slack) rules.now) (standing self.old.graph.state.signals id) id value batch.old batch.new) }
         ensures tables { self.new.tables ≡ self.old.tables }
-        ensures stays { OnOk result (Stays (stores_of self.old) (stores_of self.new)) }
-        ensures there { OnOk result (is_there (standing self.old.graph.state.signals id) ≡ true) }
-        ensures gone { IsErrOf result fault.Gone → is_there (standing self.old.graph.state.signals id) ≡ false }
-        ensures fault { IfErr result (λ e. (e ≡ fault.Gone) ⊎ (e ≡ fault.NoMemory)) }
-        ensures err { IsErrOf result fault.Gone → (self.new ≡ self.old) × (batch.new ≡ batch.old) }
-        ensures untold { IsErrOf result fault.Gone → events.new ≡ events.old }
+        ensures refuses { Refuses result (is_there (standing self.old.graph.state.signals id))
+            ((self.new ≡ self.old) × (batch.new ≡ batch.old) × (events.new ≡ events.old)) }
     {
         let _made = self.graph.made();
         match set_in(batch, &mut self.graph, rules, id, value) {
@@ -126,25 +110,16 @@ impl World {
     }
 
     /// Gives each cell of a batch that ends the value back that it had as the batch began, where it has another one. Each such change is
-    /// told, and nobody is notified. What it does is told where what is kept is sound for the hosts; each store that it leaves as it was,
-    /// and each thing that stays in order, has a clause of its own, as these hold whatever the hosts answer.
+    /// told, and nobody is notified.
     ///
     /// # Errors
     ///
     /// `NoMemory` alone; then the world may only be dropped.
     pub fn abort(&mut self, batch: Batch, events: &mut Vec<Event>) -> Result<(), NoMemory>
-        requires owned { AreOwned self.old }
         requires worn { self.old.graph.state.worn < 2 ^ 127 }
-        ensures does { (hosts : Hosts) (asked : List HostPlace) → IsSound hosts asked self.old →
-            OnOk result (Does hosts asked asked self.old self.new events.old.items events.new.items (abort batch.changed)) }
-        ensures agrees { (asked : List HostPlace) → Agrees asked self.old → OnOk result (Agrees asked self.new) }
-        ensures rules { (count : ℕ) → AreRuled count self.old.graph.state.signals → OnOk result (AreRuled count self.new.graph.state.signals) }
-        ensures named { AreNamed self.old.graph self.old.watchers.made events.old.items →
-            OnOk result (AreNamed self.new.graph self.new.watchers.made events.new.items) }
-        ensures given { OnOk result (self.new.graph.given ≡ self.old.graph.given) }
+        ensures changed { OnOk result (Changed [] self.old self.new events.old.items events.new.items (length batch.changed) (λ env. abort batch.changed)) }
         ensures watchers { OnOk result (self.new.watchers ≡ self.old.watchers) }
         ensures tables { self.new.tables ≡ self.old.tables }
-        ensures worn { OnOk result (self.new.graph.state.worn ≤ self.old.graph.state.worn + length batch.changed) }
     {
         let _made = self.graph.made();
         let mut cells = Vec::with_capacity(*events.allocator(), batch.len())?;

@@ -1,6 +1,5 @@
 // Signals, owners, effects and pages are made.
-ghost use Rattle.std.specs.Prelude.{◌≡◌, ◌+◌, ◌<◌, ◌≤◌, ◌^◌, ◌⊎◌, ◌↔◌, ℕ, true, false, [], List, None, Some, IfOk, IfErr, IsErrOf, OnOk, length};
-ghost use Rattle.std.specs.List.{All};
+ghost use Rattle.std.specs.Prelude.{◌≡◌, ◌+◌, ◌<◌, ◌≤◌, ◌^◌, ℕ, [], List, None, Some, IfOk, OnOk, length};
 ghost use Rattle.sig_base.specs.declared.limits.TheConstants.{MOST_NODES, MOST_PAGES};
 ghost use Rattle.signal_model.specs.Recipes.{Hosts};
 ghost use Rattle.signal_model.specs.Changes.{live_count};
@@ -11,15 +10,14 @@ ghost use Rattle.effect_tables.specs.Bodies.{body_of};
 ghost use Rattle.effect_tables.specs.Owners.{living};
 ghost use Rattle.effect_tables.specs.Placed.{is_open};
 ghost use Rattle.sig_host.specs.Hosts.{HostPlace};
-ghost use Rattle.sig_nodes.specs.Answers.{expression_of, HasFewSlots};
+ghost use Rattle.sig_nodes.specs.Answers.{expression_of};
 ghost use Rattle.sig_nodes.specs.Computations.{recipe_made};
-ghost use Rattle.sig_nodes.specs.States.{is_given, CanWear};
-ghost use Rattle.sig_effect.specs.declared.errors.EffectFault.TheVariants as fault;
+ghost use Rattle.sig_nodes.specs.States.{CanWear};
 ghost use Rattle.sig_effect.specs.Stores.{AreRuled};
 ghost use Rattle.effect_model.specs.declared.limits.TheConstants.{MOST_OWNERS};
 ghost use Rattle.effect_world.specs.Stores.{Agrees, AreOwned, Does, IsSound};
-ghost use Rattle.sig_owner.specs.declared.errors.OwnFault.TheVariants as own;
 ghost use Rattle.effect_world.specs.Wholes.{stores_of, whole_of};
+ghost use Rattle.effect_world.specs.Answers.{CanLink, MakesSignal, RefusesSignal, RefusesThing};
 
 use crate::world::World;
 use effect_tables::{Script, Tables};
@@ -38,8 +36,7 @@ fn is_open(tables: &Tables, inside: &Option<OwnerId>) -> bool
 
 impl World {
     /// Makes a cell of a value and the place of an equality rule, which stands last inside the owner that is given, else at the top. Its
-    /// id is the number of signals that were made before. Its clauses are those of the making of a signal: its id, the act, what stays in
-    /// order, how far the counters came, that the watchers stay, and each refusal with exactly its cause.
+    /// id is the number of signals that were made before.
     ///
     /// # Errors
     ///
@@ -53,19 +50,14 @@ impl World {
     ) -> Result<NodeId, EffectFault>
         requires worn { CanWear self.old.graph.state }
         requires owned { AreOwned self.old }
-        ensures id { IfOk result (λ id. id ≡ self.old.graph.given) }
+        ensures made { IfOk result (λ id. MakesSignal self.old self.new id) }
         ensures does { (hosts : Hosts) (asked : List HostPlace) → IsSound hosts asked self.old →
             OnOk result (Does hosts asked asked self.old self.new [] [] (with_new_cell value rule inside)) }
         ensures agrees { (asked : List HostPlace) → Agrees asked self.old → OnOk result (Agrees asked self.new) }
         ensures ruled { (rules : ℕ) → ((r : ℕ) → rule ≡ Some r → r < rules) → AreRuled rules self.old.graph.state.signals →
             OnOk result (AreRuled rules self.new.graph.state.signals) }
-        ensures given { OnOk result (self.new.graph.given ≡ self.old.graph.given + 1) }
-        ensures worn { OnOk result (self.new.graph.state.worn ≡ self.old.graph.state.worn + 1) }
-        ensures watchers { OnOk result (self.new.watchers ≡ self.old.watchers) }
-        ensures gone { IsErrOf result fault.Gone ↔ (is_open (living 0 self.old.tables.owners.items) inside ≡ false) }
-        ensures limit { IsErrOf result fault.Limit ↔
-            ((is_open (living 0 self.old.tables.owners.items) inside ≡ true) × (live_count self.old.graph.state.signals ≡ MOST_NODES)) }
-        ensures err { IfErr result (λ e. (e ≡ fault.NoMemory) ⊎ (self.new ≡ self.old)) }
+        ensures refuses { RefusesSignal result (is_open (living 0 self.old.tables.owners.items) inside)
+            (live_count self.old.graph.state.signals ≡ MOST_NODES) (self.new ≡ self.old) }
     {
         if !is_open(&self.tables, &inside) {
             return Err(EffectFault::Gone);
@@ -78,9 +70,8 @@ impl World {
     }
 
     /// Makes a computed of what it asks and of the signals that its slots stand for, which stands last inside the owner that is given,
-    /// else at the top. A host formula that it asks has to be free. Its id is the number of signals that were made before. Its clauses
-    /// are those of the making of a cell, and ask for slots that were made and are few; that the host formula is free is asked for only
-    /// where the act or the order of the stores is told, as the shelf isn't at hand.
+    /// else at the top. A host formula that it asks has to be free. Its id is the number of signals that were made before. That
+    /// the host formula is free is asked for only where the act or the order of the stores is told, as the shelf isn't at hand.
     ///
     /// # Errors
     ///
@@ -92,11 +83,10 @@ impl World {
         slots: Vec<NodeId>,
         inside: Option<OwnerId>,
     ) -> Result<NodeId, EffectFault>
-        requires given { All (λ n. is_given self.old.graph n ≡ true) slots.items }
-        requires few { HasFewSlots (expression_of recipe) slots.items }
+        requires links { CanLink self.old.graph (expression_of recipe) slots.items }
         requires worn { CanWear self.old.graph.state }
         requires owned { AreOwned self.old }
-        ensures id { IfOk result (λ id. id ≡ self.old.graph.given) }
+        ensures made { IfOk result (λ id. MakesSignal self.old self.new id) }
         ensures does { (hosts : Hosts) (asked : List HostPlace) → Agrees asked self.old →
             host_refused (host_of (expression_of recipe)) (whole_of asked self.old) ≡ None → IsSound hosts asked self.old →
             OnOk result (Does hosts asked asked self.old self.new [] []
@@ -104,13 +94,8 @@ impl World {
         ensures agrees { (asked : List HostPlace) → Agrees asked self.old →
             host_refused (host_of (expression_of recipe)) (whole_of asked self.old) ≡ None → OnOk result (Agrees asked self.new) }
         ensures ruled { (rules : ℕ) → AreRuled rules self.old.graph.state.signals → OnOk result (AreRuled rules self.new.graph.state.signals) }
-        ensures given { OnOk result (self.new.graph.given ≡ self.old.graph.given + 1) }
-        ensures worn { OnOk result (self.new.graph.state.worn ≡ self.old.graph.state.worn + 1) }
-        ensures watchers { OnOk result (self.new.watchers ≡ self.old.watchers) }
-        ensures gone { IsErrOf result fault.Gone ↔ (is_open (living 0 self.old.tables.owners.items) inside ≡ false) }
-        ensures limit { IsErrOf result fault.Limit ↔
-            ((is_open (living 0 self.old.tables.owners.items) inside ≡ true) × (live_count self.old.graph.state.signals ≡ MOST_NODES)) }
-        ensures err { IfErr result (λ e. (e ≡ fault.NoMemory) ⊎ (self.new ≡ self.old)) }
+        ensures refuses { RefusesSignal result (is_open (living 0 self.old.tables.owners.items) inside)
+            (live_count self.old.graph.state.signals ≡ MOST_NODES) (self.new ≡ self.old) }
     {
         if !is_open(&self.tables, &inside) {
             return Err(EffectFault::Gone);
@@ -123,8 +108,7 @@ impl World {
     }
 
     /// Makes an owner, which stands last inside the one that is given, else at the top. Its id is the number of owners that were made
-    /// before. Its clauses are those of every making of what is no signal: its id, the act, what stays in order, that signals and
-    /// watchers aren't touched, what held where it was made, and what each refusal says of the owner and of the limit.
+    /// before.
     ///
     /// # Errors
     ///
@@ -137,20 +121,15 @@ impl World {
             OnOk result (Does hosts asked asked self.old self.new [] [] (with_new_owner inside)) }
         ensures agrees { (asked : List HostPlace) → Agrees asked self.old → OnOk result (Agrees asked self.new) }
         ensures signals { stores_of self.new ≡ stores_of self.old }
-        ensures open { OnOk result (is_open (living 0 self.old.tables.owners.items) inside ≡ true) }
-        ensures gone { IsErrOf result own.Gone → is_open (living 0 self.old.tables.owners.items) inside ≡ false }
-        ensures room { OnOk result (length (living 0 self.old.tables.owners.items) < MOST_OWNERS) }
-        ensures limit { IsErrOf result own.Limit → MOST_OWNERS ≤ length (living 0 self.old.tables.owners.items) }
-        ensures opened { IsErrOf result own.Limit → is_open (living 0 self.old.tables.owners.items) inside ≡ true }
-        ensures err { IfErr result (λ e. (e ≡ own.NoMemory) ⊎ (self.new ≡ self.old)) }
+        ensures refuses { RefusesThing result (is_open (living 0 self.old.tables.owners.items) inside)
+            (length (living 0 self.old.tables.owners.items) < MOST_OWNERS) (MOST_OWNERS ≤ length (living 0 self.old.tables.owners.items)) (self.new ≡ self.old) }
     {
         let id = self.tables.make_owner(inside)?;
         Ok(id)
     }
 
     /// Makes an effect of a body and its links, which stands last inside the owner that is given, else at the top. It has not run. Its id
-    /// is the number of effects that were made before. Its clauses are those of the making of an owner; beside them it asks that ids are
-    /// left and that the script fits, and in place of those of the limit it has one that there is none.
+    /// is the number of effects that were made before.
     ///
     /// # Errors
     ///
@@ -171,18 +150,14 @@ impl World {
             OnOk result (Does hosts asked asked self.old self.new [] [] (with_new_effect (body_of self.old.tables.effects_made script []) inside)) }
         ensures agrees { (asked : List HostPlace) → Agrees asked self.old → OnOk result (Agrees asked self.new) }
         ensures signals { stores_of self.new ≡ stores_of self.old }
-        ensures open { OnOk result (is_open (living 0 self.old.tables.owners.items) inside ≡ true) }
-        ensures gone { IsErrOf result own.Gone → is_open (living 0 self.old.tables.owners.items) inside ≡ false }
-        ensures limit { IsErrOf result own.Limit → ⊥ }
-        ensures err { IfErr result (λ e. (e ≡ own.NoMemory) ⊎ (self.new ≡ self.old)) }
+        ensures refuses { RefusesThing result (is_open (living 0 self.old.tables.owners.items) inside) (Unit {0}) ⊥ (self.new ≡ self.old) }
     {
         let id = self.tables.make_effect(alloc, script, inside)?;
         Ok(id)
     }
 
     /// Makes a page, which stands last inside the owner that is given, else at the top. Its id is the number of pages that were made
-    /// before. Its clauses are those of the making of an owner, and it asks that ids are left; what the limit says of the pages and what
-    /// it says of the owner are two clauses.
+    /// before.
     ///
     /// # Errors
     ///
@@ -196,12 +171,8 @@ impl World {
             OnOk result (Does hosts asked asked self.old self.new [] [] (with_new_page inside)) }
         ensures agrees { (asked : List HostPlace) → Agrees asked self.old → OnOk result (Agrees asked self.new) }
         ensures signals { stores_of self.new ≡ stores_of self.old }
-        ensures open { OnOk result (is_open (living 0 self.old.tables.owners.items) inside ≡ true) }
-        ensures gone { IsErrOf result own.Gone → is_open (living 0 self.old.tables.owners.items) inside ≡ false }
-        ensures room { OnOk result (length self.old.tables.pages.items < MOST_PAGES) }
-        ensures limit { IsErrOf result own.Limit → MOST_PAGES ≤ length self.old.tables.pages.items }
-        ensures opened { IsErrOf result own.Limit → is_open (living 0 self.old.tables.owners.items) inside ≡ true }
-        ensures err { IfErr result (λ e. (e ≡ own.NoMemory) ⊎ (self.new ≡ self.old)) }
+        ensures refuses { RefusesThing result (is_open (living 0 self.old.tables.owners.items) inside)
+            (length self.old.tables.pages.items < MOST_PAGES) (MOST_PAGES ≤ length self.old.tables.pages.items) (self.new ≡ self.old) }
     {
         let id = self.tables.make_page(inside)?;
         Ok(id)

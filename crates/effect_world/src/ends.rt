@@ -1,18 +1,16 @@
 // Things end, with all that stands under them.
-ghost use Rattle.std.specs.Prelude.{◌≡◌, ◌+◌, ◌<◌, ◌≤◌, ◌^◌, ◌⊎◌, ℕ, true, false, IfErr, IsErrOf, OnOk, length, map};
-ghost use Rattle.signal_model.specs.Recipes.{Hosts};
+ghost use Rattle.std.specs.Prelude.{◌≡◌, ◌<◌, ◌^◌, true, OnOk, length, map};
 ghost use Rattle.effect_model.specs.Acts as acts;
 ghost use Rattle.effect_model.specs.Acts.{dispose_thing};
 ghost use Rattle.effect_model.specs.Owners.{the_effect};
 ghost use Rattle.effect_model.specs.Worlds.{lives};
 ghost use Rattle.effect_tables.specs.Bodies.{thing_of};
-ghost use Rattle.sig_host.specs.Hosts.{most_asked};
-ghost use Rattle.sig_effect.specs.declared.errors.EffectFault.TheVariants as fault;
-ghost use Rattle.sig_effect.specs.Stores.{environment, AreRuled};
+ghost use Rattle.sig_effect.specs.Stores.{AreRuled};
 ghost use Rattle.effect_world.specs.Signals.{is_standing};
-ghost use Rattle.effect_world.specs.Stores.{Agrees, Does, IsSound};
-ghost use Rattle.effect_world.specs.Costs.{weight};
+ghost use Rattle.effect_world.specs.Stores.{Agrees};
 ghost use Rattle.effect_world.specs.Wholes.{whole_of};
+ghost use Rattle.effect_world.specs.Answers.{Acted, Refuses};
+ghost use Rattle.effect_world.specs.Signals.{scene};
 
 use crate::world::World;
 use effect_tables::Thing;
@@ -36,9 +34,7 @@ impl World {
     }
 
     /// Disposes a thing: what stands under it is taken back, the last made first, and then it ends. Each cleanup on the way is done, and
-    /// each thing that ends is told; a computed that asks a host formula drops it first. The order of world and shelf is asked for and
-    /// given back part by part, so that more may be done after it; the act, how far the counters came beside what was told, and what
-    /// `Gone` means and leaves are clauses apart.
+    /// each thing that ends is told; a computed that asks a host formula drops it first.
     ///
     /// # Errors
     ///
@@ -54,23 +50,12 @@ impl World {
         requires ruled { AreRuled (length rules.now) self.old.graph.state.signals }
         requires counted { ⟦<Shelf as Lent>⟧.counted shelf.old }
         requires worn { self.old.graph.state.worn < 2 ^ 126 }
-        ensures does { (hosts : Hosts) → IsSound hosts (⟦<Shelf as Lent>⟧.asked shelf.old) self.old → OnOk result
-            (Does hosts (⟦<Shelf as Lent>⟧.asked shelf.old) (⟦<Shelf as Lent>⟧.asked shelf.new) self.old self.new events.old.items events.new.items
-            (dispose_thing (environment hosts (map (λ r. r.slack) rules.now)) (thing_of thing))) }
-        ensures agrees { OnOk result (Agrees (⟦<Shelf as Lent>⟧.asked shelf.new) self.new) }
-        ensures answers { (hosts : Hosts) → ⟦<Shelf as Lent>⟧.answers hosts shelf.old → OnOk result (⟦<Shelf as Lent>⟧.answers hosts shelf.new) }
+        ensures done { OnOk result (Acted (map (λ r. r.slack) rules.now)
+            (scene self.old (⟦<Shelf as Lent>⟧.asked shelf.old) events.old.items) (scene self.new (⟦<Shelf as Lent>⟧.asked shelf.new) events.new.items)
+            (λ hosts. ⟦<Shelf as Lent>⟧.answers hosts shelf.old) (λ hosts. ⟦<Shelf as Lent>⟧.answers hosts shelf.new) 0 (λ env. dispose_thing env (thing_of thing))) }
         ensures counted { OnOk result (⟦<Shelf as Lent>⟧.counted shelf.new) }
-        ensures most { OnOk result (most_asked (⟦<Shelf as Lent>⟧.asked shelf.new) ≤ most_asked (⟦<Shelf as Lent>⟧.asked shelf.old)) }
-        ensures rules { (count : ℕ) → AreRuled count self.old.graph.state.signals → OnOk result (AreRuled count self.new.graph.state.signals) }
-        ensures given { OnOk result (self.new.graph.given ≡ self.old.graph.given) }
-        ensures made { OnOk result (self.new.watchers.made ≡ self.old.watchers.made) }
-        ensures worn { OnOk result (weight self.new + length events.old.items ≤ weight self.old + length events.new.items) }
-        ensures told { OnOk result (length events.old.items ≤ length events.new.items) }
-        ensures there { OnOk result (lives (thing_of thing) (whole_of (⟦<Shelf as Lent>⟧.asked shelf.old) self.old) ≡ true) }
-        ensures gone { IsErrOf result fault.Gone → lives (thing_of thing) (whole_of (⟦<Shelf as Lent>⟧.asked shelf.old) self.old) ≡ false }
-        ensures fault { IfErr result (λ e. (e ≡ fault.Gone) ⊎ (e ≡ fault.NoMemory)) }
-        ensures err { IsErrOf result fault.Gone → self.new ≡ self.old }
-        ensures untold { IsErrOf result fault.Gone → (shelf.new ≡ shelf.old) × (events.new ≡ events.old) }
+        ensures refuses { Refuses result (lives (thing_of thing) (whole_of (⟦<Shelf as Lent>⟧.asked shelf.old) self.old))
+            ((self.new ≡ self.old) × (shelf.new ≡ shelf.old) × (events.new ≡ events.old)) }
     {
         if !self.is_standing(&thing) {
             return Err(EffectFault::Gone);
@@ -87,8 +72,7 @@ impl World {
     }
 
     /// Takes back what stands under an effect, the last made first, as a run of it begins. Each cleanup on the way is done, and each thing
-    /// that ends is told. Its clauses are those of a disposal, for an effect that goes on to run: the act, each part of the order of
-    /// world and shelf, how far the counters came beside what was told, and what `Gone` means and leaves.
+    /// that ends is told.
     ///
     /// # Errors
     ///
@@ -104,23 +88,12 @@ impl World {
         requires ruled { AreRuled (length rules.now) self.old.graph.state.signals }
         requires counted { ⟦<Shelf as Lent>⟧.counted shelf.old }
         requires worn { self.old.graph.state.worn < 2 ^ 126 }
-        ensures does { (hosts : Hosts) → IsSound hosts (⟦<Shelf as Lent>⟧.asked shelf.old) self.old → OnOk result
-            (Does hosts (⟦<Shelf as Lent>⟧.asked shelf.old) (⟦<Shelf as Lent>⟧.asked shelf.new) self.old self.new events.old.items events.new.items
-            (acts.take_back (environment hosts (map (λ r. r.slack) rules.now)) (the_effect id))) }
-        ensures agrees { OnOk result (Agrees (⟦<Shelf as Lent>⟧.asked shelf.new) self.new) }
-        ensures answers { (hosts : Hosts) → ⟦<Shelf as Lent>⟧.answers hosts shelf.old → OnOk result (⟦<Shelf as Lent>⟧.answers hosts shelf.new) }
+        ensures done { OnOk result (Acted (map (λ r. r.slack) rules.now)
+            (scene self.old (⟦<Shelf as Lent>⟧.asked shelf.old) events.old.items) (scene self.new (⟦<Shelf as Lent>⟧.asked shelf.new) events.new.items)
+            (λ hosts. ⟦<Shelf as Lent>⟧.answers hosts shelf.old) (λ hosts. ⟦<Shelf as Lent>⟧.answers hosts shelf.new) 0 (λ env. acts.take_back env (the_effect id))) }
         ensures counted { OnOk result (⟦<Shelf as Lent>⟧.counted shelf.new) }
-        ensures most { OnOk result (most_asked (⟦<Shelf as Lent>⟧.asked shelf.new) ≤ most_asked (⟦<Shelf as Lent>⟧.asked shelf.old)) }
-        ensures rules { (count : ℕ) → AreRuled count self.old.graph.state.signals → OnOk result (AreRuled count self.new.graph.state.signals) }
-        ensures given { OnOk result (self.new.graph.given ≡ self.old.graph.given) }
-        ensures made { OnOk result (self.new.watchers.made ≡ self.old.watchers.made) }
-        ensures worn { OnOk result (weight self.new + length events.old.items ≤ weight self.old + length events.new.items) }
-        ensures told { OnOk result (length events.old.items ≤ length events.new.items) }
-        ensures there { OnOk result (lives (the_effect id) (whole_of (⟦<Shelf as Lent>⟧.asked shelf.old) self.old) ≡ true) }
-        ensures gone { IsErrOf result fault.Gone → lives (the_effect id) (whole_of (⟦<Shelf as Lent>⟧.asked shelf.old) self.old) ≡ false }
-        ensures fault { IfErr result (λ e. (e ≡ fault.Gone) ⊎ (e ≡ fault.NoMemory)) }
-        ensures err { IsErrOf result fault.Gone → self.new ≡ self.old }
-        ensures untold { IsErrOf result fault.Gone → (shelf.new ≡ shelf.old) × (events.new ≡ events.old) }
+        ensures refuses { Refuses result (lives (the_effect id) (whole_of (⟦<Shelf as Lent>⟧.asked shelf.old) self.old))
+            ((self.new ≡ self.old) × (shelf.new ≡ shelf.old) × (events.new ≡ events.old)) }
     {
         match effect_teardown::take_back(&mut self.tables, id) {
             Ok(undoings) => {

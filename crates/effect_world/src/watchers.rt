@@ -19,8 +19,7 @@ use sig_watcher::WatchFault;
 
 impl World {
     /// Makes a watcher, which has no signals and is waiting; it may try a command when it is notified. Its id is the number of
-    /// watchers that were made before. Its clauses are those of every making; the signals, which aren't touched, and the table of
-    /// watchers, which gets one more, have a clause each, and so have the cause of a refusal, the kinds of refusals, and what one leaves.
+    /// watchers that were made before.
     ///
     /// # Errors
     ///
@@ -28,15 +27,13 @@ impl World {
     pub fn make_watcher(&mut self, tries: bool) -> Result<WatcherId, EffectFault>
         requires made { self.old.watchers.made + 1 < 2 ^ 128 }
         requires owned { AreOwned self.old }
-        ensures id { IfOk result (λ id. id ≡ self.old.watchers.made) }
+        ensures made { IfOk result (λ id. (id ≡ self.old.watchers.made) × (self.new.watchers ≡ with_new tries self.old.watchers)) }
         ensures does { (hosts : Hosts) (asked : List HostPlace) → IsSound hosts asked self.old →
             OnOk result (Does hosts asked asked self.old self.new [] [] (with_new_watcher tries)) }
         ensures agrees { (asked : List HostPlace) → Agrees asked self.old → OnOk result (Agrees asked self.new) }
         ensures graph { self.new.graph ≡ self.old.graph }
-        ensures watchers { OnOk result (self.new.watchers ≡ with_new tries self.old.watchers) }
         ensures limit { IsErrOf result fault.Limit ↔ (length self.old.watchers.watchers ≡ MOST_WATCHERS) }
-        ensures fault { IfErr result (λ e. (e ≡ fault.Limit) ⊎ (e ≡ fault.NoMemory)) }
-        ensures err { OnErr result (self.new ≡ self.old) }
+        ensures err { IfErr result (λ e. ((e ≡ fault.Limit) ⊎ (e ≡ fault.NoMemory)) × (self.new ≡ self.old)) }
     {
         let id = self.watchers.add(tries)?;
         Ok(id)
@@ -63,8 +60,7 @@ impl World {
         Ok(())
     }
 
-    /// Lets a watcher no longer watch a signal. It takes no memory. The act, the order, and each of the two stores are told apart, and
-    /// each refusal has exactly its cause; that there is no other one, and that it changes nothing, are the rest.
+    /// Lets a watcher no longer watch a signal. It takes no memory.
     ///
     /// # Errors
     ///
@@ -79,8 +75,7 @@ impl World {
         ensures gone { IsErrOf result refused.Gone ↔ (is_alive self.old.watchers.watchers w ≡ false) }
         ensures not_watched { IsErrOf result refused.NotWatched ↔
             ((is_alive self.old.watchers.watchers w && not (watches self.old.watchers.watchers w id)) ≡ true) }
-        ensures fault { IfErr result (λ e. (e ≡ refused.Gone) ⊎ (e ≡ refused.NotWatched)) }
-        ensures err { OnErr result (self.new ≡ self.old) }
+        ensures err { IfErr result (λ e. ((e ≡ refused.Gone) ⊎ (e ≡ refused.NotWatched)) × (self.new ≡ self.old)) }
     {
         self.watchers.unwatch(w, id)?;
         Ok(())

@@ -18,34 +18,34 @@ use Rattle.effect_acts.proofs.act.do_act.Goals as goal
 pub returns-in_ok-set-in-Set-clause-done : goal.returns-in_ok-set-in-Set-clause-done
 returns-in_ok-set-in-Set-clause-done g c =
     let p = parts_of c.args.site.now.origin (rc_value c.args.site.now.script) c.args.site.now.path.items in
-    acted_as _ _ _ _ 1 1 (λ env. set_cell env c.cell_at-cell.result c.in_ok-value-in-Set.value) (λ env. do_act env c.args.id c.args.label (act_of p c.args.act.now))
-    (λ env. (λ i. set_cell env (cell_meant (rc_value c.args.site.now.script) c.args.site.now.path.items c.args.body.now c.args.links.now c.requires.part c.args.site.now.origin c.in-Set.target c.cell_at-cell.result
-    (c.cell_at-cell.ensures ∙ ap (λ xs. signal_number (target_thing c.args.site.now.origin (slice_get xs c.in-Set.target))) c.deref.ensures.value) i) (c.in_ok-value-in-Set.ensures i))
-    ∙ ap (λ a. do_act env c.args.id c.args.label (act_of p a)) (sym c.in-Set.is))
+    let n = signal_number (target_thing c.args.site.now.origin (slice_get c.deref.result c.in-Set.target)) in
+    let v = scalar_value c.in-Set.scalar in
+    acted_as _ _ _ _ 1 1 (λ env. set_cell env n v) (λ env. do_act env c.args.id c.args.label (act_of p c.args.act.now))
+    (λ env. ap (λ m. set_cell env m v) (cell_meant (rc_value c.args.site.now.script) c.args.site.now.path.items c.args.body.now c.args.links.now c.requires.part c.args.site.now.origin c.in-Set.target n
+    (ap (λ xs. signal_number (target_thing c.args.site.now.origin (slice_get xs c.in-Set.target))) c.deref.ensures.value)) ∙ ap (λ a. do_act env c.args.id c.args.label (act_of p a)) (sym c.in-Set.is))
     (omega arith) (c.in_ok-set-in-Set.ensures.done _ c.requires.agrees)
 
 pub returns-in_ok-log-in-Log-clause-done : goal.returns-in_ok-log-in-Log-clause-done
 returns-in_ok-log-in-Log-clause-done g c =
     let p = parts_of c.args.site.now.origin (rc_value c.args.site.now.script) c.args.site.now.path.items in
-    acted_as _ _ _ _ 0 1 (λ env. tell (logged c.in_ok-value-in-Log.value)) (λ env. do_act env c.args.id c.args.label (act_of p c.args.act.now))
-    (λ env. (λ i. tell (logged (c.in_ok-value-in-Log.ensures i))) ∙ ap (λ a. do_act env c.args.id c.args.label (act_of p a)) (sym c.in-Log.is))
+    acted_as _ _ _ _ 0 1 (λ env. tell (logged c.in-Log.value)) (λ env. do_act env c.args.id c.args.label (act_of p c.args.act.now)) (λ env. ap (λ a. do_act env c.args.id c.args.label (act_of p a)) (sym c.in-Log.is))
     (omega arith) (c.in_ok-log-in-Log.ensures _ _ c.requires.agrees)
 
 pub returns-in_ok-note_there-in-CleanupSet-clause-done : goal.returns-in_ok-note_there-in-CleanupSet-clause-done
 returns-in_ok-note_there-in-CleanupSet-clause-done g c =
     let p = parts_of c.args.site.now.origin (rc_value c.args.site.now.script) c.args.site.now.path.items in
-    let n = c.cell_at-cell-in-CleanupSet.result in
-    acted_as _ _ _ _ 0 1 (λ env. do_act env c.args.id 0 (to_note (sets n (scalar_value c.in_ok-scalar-in-CleanupSet.scalar)))) (λ env. do_act env c.args.id c.args.label (act_of p c.args.act.now))
+    let n = c.cell_at-cell.result in
+    acted_as _ _ _ _ 0 1 (λ env. do_act env c.args.id 0 (to_note (sets n (scalar_value c.in_ok-scalar.scalar)))) (λ env. do_act env c.args.id c.args.label (act_of p c.args.act.now))
     (λ env. (λ i. do_act env c.args.id 0 (to_note (sets (cell_meant (rc_value c.args.site.now.script) c.args.site.now.path.items c.args.body.now c.args.links.now c.requires.part c.args.site.now.origin c.in-CleanupSet.target n
-    (c.cell_at-cell-in-CleanupSet.ensures ∙ ap (λ xs. signal_number (target_thing c.args.site.now.origin (slice_get xs c.in-CleanupSet.target))) c.deref-in-CleanupSet.ensures.value) i) (scalar_value (c.in_ok-scalar-in-CleanupSet.ensures i)))))
+    (c.cell_at-cell.ensures ∙ ap (λ xs. signal_number (target_thing c.args.site.now.origin (slice_get xs c.in-CleanupSet.target))) c.deref-in-CleanupSet.ensures.value) i) (scalar_value (c.in_ok-scalar.ensures i)))))
     ∙ ap (λ a. do_act env c.args.id c.args.label (act_of p a)) (sym c.in-CleanupSet.is))
     (omega arith) (c.in_ok-note_there-in-CleanupSet.ensures _ _ c.requires.agrees)
 
 pub returns-in_ok-note_there-in-CleanupLog-clause-done : goal.returns-in_ok-note_there-in-CleanupLog-clause-done
 returns-in_ok-note_there-in-CleanupLog-clause-done g c =
     let p = parts_of c.args.site.now.origin (rc_value c.args.site.now.script) c.args.site.now.path.items in
-    acted_as _ _ _ _ 0 1 (λ env. do_act env c.args.id 0 (to_note (logs c.in_ok-value-in-CleanupLog.value))) (λ env. do_act env c.args.id c.args.label (act_of p c.args.act.now))
-    (λ env. (λ i. do_act env c.args.id 0 (to_note (logs (c.in_ok-value-in-CleanupLog.ensures i)))) ∙ ap (λ a. do_act env c.args.id c.args.label (act_of p a)) (sym c.in-CleanupLog.is))
+    acted_as _ _ _ _ 0 1 (λ env. do_act env c.args.id 0 (to_note (logs c.in_ok-value.value))) (λ env. do_act env c.args.id c.args.label (act_of p c.args.act.now))
+    (λ env. (λ i. do_act env c.args.id 0 (to_note (logs (c.in_ok-value.ensures i)))) ∙ ap (λ a. do_act env c.args.id c.args.label (act_of p a)) (sym c.in-CleanupLog.is))
     (omega arith) (c.in_ok-note_there-in-CleanupLog.ensures _ _ c.requires.agrees)
 
 pub returns-in_ok-make_there-in-Effect-clause-done : goal.returns-in_ok-make_there-in-Effect-clause-done

@@ -1,5 +1,6 @@
 use Rattle.std.proofs.Common.{ap, sym, ◌∙◌, arith}
 use Rattle.std.specs.Prelude.{slice_get}
+use Rattle.sig_base.specs.Values.{scalar_value}
 use Rattle.effect_model.specs.Acts.{set_cell}
 use Rattle.effect_model.specs.Alone.{act_alone}
 use Rattle.effect_model.specs.Worlds.{logged, tell}
@@ -12,9 +13,10 @@ use Rattle.effect_acts.proofs.alone.do_alone.Goals as goal
 
 pub returns-in_ok-set-in-Set-clause-done : goal.returns-in_ok-set-in-Set-clause-done
 returns-in_ok-set-in-Set-clause-done g c = λ asked p agrees cells.
-    acted_as _ _ _ _ 1 1 (λ env. set_cell env c.cell_at-cell.result c.in_ok-value-in-Set.value) (λ env. act_alone env (act_of p c.args.act.now))
-    (λ env. (λ i. set_cell env ((c.cell_at-cell.ensures ∙ ap (λ origin. signal_number (target_thing origin (slice_get c.args.targets.now c.in-Set.target))) c.of.ensures ∙ sym (cells c.in-Set.target)) i)
-    (c.in_ok-value-in-Set.ensures i)) ∙ ap (λ a. act_alone env (act_of p a)) (sym c.in-Set.is))
+    let v = scalar_value c.in-Set.scalar in
+    acted_as _ _ _ _ 1 1 (λ env. set_cell env (signal_number (target_thing c.of.result (slice_get c.args.targets.now c.in-Set.target))) v) (λ env. act_alone env (act_of p c.args.act.now))
+    (λ env. ap (λ n. set_cell env n v) (ap (λ origin. signal_number (target_thing origin (slice_get c.args.targets.now c.in-Set.target))) c.of.ensures ∙ sym (cells c.in-Set.target))
+    ∙ ap (λ a. act_alone env (act_of p a)) (sym c.in-Set.is))
     (omega arith) (c.in_ok-set-in-Set.ensures.done asked agrees)
 
 pub returns-in_ok-set-in-Set-clause-tables : goal.returns-in_ok-set-in-Set-clause-tables
@@ -22,9 +24,7 @@ returns-in_ok-set-in-Set-clause-tables g c = c.in_ok-set-in-Set.ensures.tables
 
 pub returns-in_ok-log-in-Log-clause-done : goal.returns-in_ok-log-in-Log-clause-done
 returns-in_ok-log-in-Log-clause-done g c = λ asked p agrees cells.
-    acted_as _ _ _ _ 0 1 (λ env. tell (logged c.in_ok-value-in-Log.value)) (λ env. act_alone env (act_of p c.args.act.now))
-    (λ env. (λ i. tell (logged (c.in_ok-value-in-Log.ensures i))) ∙ ap (λ a. act_alone env (act_of p a)) (sym c.in-Log.is))
-    (omega arith) (c.in_ok-log-in-Log.ensures asked _ agrees)
+    acted_as _ _ _ _ 0 1 (λ env. tell (logged c.in-Log.value)) (λ env. act_alone env (act_of p c.args.act.now)) (λ env. ap (λ a. act_alone env (act_of p a)) (sym c.in-Log.is)) (omega arith) (c.in_ok-log-in-Log.ensures asked _ agrees)
 
 pub returns-in-CleanupSet-clause-done : goal.returns-in-CleanupSet-clause-done
 returns-in-CleanupSet-clause-done g c = λ asked p agrees cells.

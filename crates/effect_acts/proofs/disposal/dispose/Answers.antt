@@ -1,4 +1,4 @@
-use Rattle.std.proofs.Common.{◌++◌, ◌∷◌, [], Err, refl, sym, ap, subst, ◌∙◌, arith}
+use Rattle.std.proofs.Common.{◌++◌, ◌∷◌, [], Err, refl, sym, ap, subst, ◌∙◌}
 use Rattle.std.specs.Prelude.{IsErrOf}
 use Rattle.effect_model.specs.Acts.{dispose_thing}
 use Rattle.effect_model.specs.Worlds as plain
@@ -9,25 +9,12 @@ use Rattle.effect_world.specs.Wholes.{whole_of}
 use Rattle.effect_acts.proofs.Acts.{acted_told, refused_gone}
 use Rattle.effect_acts.proofs.disposal.dispose.Goals as goal
 
-pub returns-in-Ok-clause-done : goal.returns-in-Ok-clause-done
-returns-in-Ok-clause-done g c = record {
-  does = c.in-Ok.ensures.does;
-  agrees = c.in-Ok.ensures.agrees;
-  answers = c.in-Ok.ensures.answers;
-  most = c.in-Ok.ensures.most;
-  rules = c.in-Ok.ensures.rules;
-  given = c.in-Ok.ensures.given;
-  made = c.in-Ok.ensures.made;
-  worn = let w = c.in-Ok.ensures.worn in omega (arith, w);
-  told = c.in-Ok.ensures.told;
-}
-
 pub returns-in_ok-push-in-Err-Gone-clause-done : goal.returns-in_ok-push-in-Err-Gone-clause-done
 returns-in_ok-push-in-Err-Gone-clause-done g c =
-    let gone : IsErrOf c.dispose.result fault.Gone = subst (λ r. IsErrOf r fault.Gone) (sym (c.in-Err-Gone.is ∙ ap Err c.in-Err-Gone.field-0-is)) refl in
-    let same = c.dispose.ensures.err gone in
-    let still = c.dispose.ensures.untold gone in
-    rw (same, still.0)
+    let is = c.in-Err-Gone.is ∙ ap Err c.in-Err-Gone.field-0-is in
+    let gone : IsErrOf c.dispose.result fault.Gone = subst (λ r. IsErrOf r fault.Gone) (sym is) refl in
+    let off = c.dispose.ensures.refuses.1 gone in
+    rw (off.1.0, off.1.1)
     (acted_told _ c.args.world.now _ _ _ (event.RefusedGone c.args.thing) (plain.refused (plain.thing_gone (thing_of c.args.thing))) _ _ (λ env. dispose_thing env (thing_of c.args.thing))
-    (c.in_ok-push-in-Err-Gone.ensures.items ∙ (λ i. (still.1 i).items ++ c.refusal-refused.ensures i ∷ []))
-    (λ env. refused_gone env (thing_of c.args.thing) (whole_of _ c.args.world.now) (c.dispose.ensures.gone gone)) refl c.requires.agrees)
+    (c.in_ok-push-in-Err-Gone.ensures.items ∙ (λ i. (off.1.2 i).items ++ c.refusal-refused.ensures i ∷ []))
+    (λ env. refused_gone env (thing_of c.args.thing) (whole_of _ c.args.world.now) off.0) refl c.requires.agrees)

@@ -5,7 +5,7 @@ use Rattle.sig_untrack.specs.Links.{acts_of}
 use Rattle.effect_teardown.specs.Sites.{parts_of}
 use Rattle.sig_host.specs.Hosts.{AnswersBy, IsCounted}
 use Rattle.effect_world.specs.Signals.{scene}
-use Rattle.effect_acts.specs.Acts.{Acted}
+use Rattle.effect_world.specs.Answers.{Acted}
 use Rattle.effect_acts.specs.Labels.{labelled}
 use Rattle.effect_acts.proofs.sequence.do_acts.Given as goal
 

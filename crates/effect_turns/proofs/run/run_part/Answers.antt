@@ -17,17 +17,15 @@ evaluate-requires-clause-fits g c = part_fits _ _ _ _ c.requires.part c.requires
 pub keep_reads-requires : goal.keep_reads-requires
 keep_reads-requires g c = (c.in_ok-run.ensures.done [] any_parts).agrees.owned
 
-pub finish-requires-clause-agrees : goal.finish-requires-clause-agrees
-finish-requires-clause-agrees g c = (c.in_ok-keep_reads.ensures.done _ [] (c.in_ok-run.ensures.done [] any_parts).agrees).agrees
-
-pub finish-requires-clause-worn : goal.finish-requires-clause-worn
-finish-requires-clause-worn g c =
-    low_after _ _ _ _ _ c.requires.can c.in_ok-run.ensures.spent (c.in_ok-keep_reads.ensures.done _ [] (c.in_ok-run.ensures.done [] any_parts).agrees) c.in_ok-keep_reads.ensures.told
-    (omega arith)
-
-pub finish-requires-clause-ruled : goal.finish-requires-clause-ruled
-finish-requires-clause-ruled g c =
-    (c.in_ok-keep_reads.ensures.done _ [] (c.in_ok-run.ensures.done [] any_parts).agrees).rules _ ((c.in_ok-run.ensures.done [] any_parts).rules _ c.requires.ruled)
+pub finish-requires-clause-may : goal.finish-requires-clause-may
+finish-requires-clause-may g c =
+    let run = c.in_ok-run.ensures.done [] any_parts in
+    let kept = c.in_ok-keep_reads.ensures.done _ [] run.agrees in
+    record {
+      agrees = kept.agrees;
+      ruled = kept.rules _ (run.rules _ c.requires.ruled);
+      worn = low_after _ _ _ _ _ c.requires.can c.in_ok-run.ensures.spent kept c.in_ok-keep_reads.ensures.told (omega arith);
+    }
 
 pub returns-clause-done : goal.returns-clause-done
 returns-clause-done g c =
@@ -38,6 +36,6 @@ returns-clause-done g c =
 
 pub returns-clause-spent : goal.returns-clause-spent
 returns-clause-spent g c =
-    let e = c.in_ok-finish.ensures in
+    let e = c.in_ok-finish.ensures.used in
     run_spends _ _ _ _ _ _ c.in_ok-run.ensures.spent (c.in_ok-keep_reads.ensures.done _ [] (c.in_ok-run.ensures.done [] any_parts).agrees) c.in_ok-keep_reads.ensures.told e.worn e.most
     e.told

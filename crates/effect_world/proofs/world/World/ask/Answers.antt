@@ -1,6 +1,8 @@
-use Rattle.std.proofs.Common.{List, [], ◌∷◌, map, refl, sym, subst}
+use Rattle.std.proofs.Common.{List, [], ◌∷◌, ◌∙◌, length, length-append, map, refl, sym, ap, subst, arith}
+use Rattle.std.proofs.lemmas.List.{length-map}
 use Rattle.sig_computed.specs.declared.notes.RunNote.{RunNote}
 use Rattle.sig_computed.specs.Notes.{note_of, AreNotesGiven}
+use Rattle.sig_effect.specs.declared.events.Event.TheVariants as event
 use Rattle.effect_world.specs.declared.world.World.{World}
 use Rattle.sig_effect.proofs.Shared.{agrees_settled, ask_does}
 use Rattle.sig_effect.proofs.Shared.{none_given, runs_behind}
@@ -8,26 +10,34 @@ use Rattle.effect_world.specs.Wholes.{stores_of}
 use Rattle.effect_world.proofs.Worlds.{owned_still, settle_done}
 use Rattle.effect_world.proofs.world.World.ask.Goals as goal
 
-pub returns-clause-does : goal.returns-clause-does
-returns-clause-does g c = λ hosts slacks all sound.
+pub returns-clause-settled : goal.returns-clause-settled
+returns-clause-settled g c =
+    let old : World = c.args.self.now in
     let e = c.in_ok-outcome.ensures.settles in
-    let new : World = record { graph = c.settle.new.graph; watchers = c.args.self.now.watchers; tables = c.args.self.now.tables } in
-    settle_done hosts slacks _ _ c.args.self.now new _ _ (c.args.id ∷ [])
-    (ask_does hosts slacks _ _ (stores_of c.args.self.now) (stores_of new) c.args.id c.new-notes.result.items c.settle.new.notes.items _ _ c.new-notes.ensures.items e.signals e.given refl
-    (e.settled hosts all sound.kept) (e.asked hosts all sound.kept) c.in_ok-tell_runs.ensures (e.kept hosts all sound.kept) sound) refl c.requires.agrees.owned.tables
-
-pub returns-clause-agrees : goal.returns-clause-agrees
-returns-clause-agrees g c =
-    let e = c.in_ok-outcome.ensures in
-    let new : World = record { graph = c.settle.new.graph; watchers = c.args.self.now.watchers; tables = c.args.self.now.tables } in
+    let new : World = record { graph = c.settle.new.graph; watchers = old.watchers; tables = old.tables } in
+    let m = e.most in
+    let w = e.worn in
+    let none = ap (λ (ns : List RunNote). length (map note_of ns)) c.new-notes.ensures.items in
+    let noted = length-map c.settle.new.notes.items note_of in
+    let told = ap length c.in_ok-tell_runs.ensures ∙ length-append c.args.events.now.items (map event.Run c.settle.new.notes.items) in
+    let runs = length-map c.settle.new.notes.items event.Run in
     record {
-      signals = agrees_settled _ _ (stores_of c.args.self.now) (stores_of new) e.settles.signals e.settles.idle e.settles.there refl c.requires.agrees.signals;
-      owned = owned_still c.args.self.now new e.settles.given refl c.requires.agrees.owned;
+      does = λ hosts slacks all sound.
+          settle_done hosts slacks _ _ old new _ _ (c.args.id ∷ [])
+          (ask_does hosts slacks _ _ (stores_of old) (stores_of new) c.args.id c.new-notes.result.items c.settle.new.notes.items _ _ c.new-notes.ensures.items e.signals e.given refl
+          (e.settled hosts all sound.kept) (e.asked hosts all sound.kept) c.in_ok-tell_runs.ensures (e.kept hosts all sound.kept) sound) refl c.requires.agrees.owned.tables;
+      agrees = record {
+        signals = agrees_settled _ _ (stores_of old) (stores_of new) e.signals e.idle e.there refl c.requires.agrees.signals;
+        owned = owned_still old new e.given refl c.requires.agrees.owned;
+      };
+      answers = e.answers;
+      most = omega (arith, m, none, noted, told, runs);
+      signals = e.signals;
+      given = e.given;
+      watchers = refl;
+      named = λ named.
+          runs_behind old.graph c.settle.new.graph old.watchers.made c.settle.new.notes.items _ _ e.given
+          (e.named (subst (λ (ns : List RunNote). AreNotesGiven old.graph (map note_of ns)) (sym c.new-notes.ensures.items) (none_given old.graph)))
+          c.in_ok-tell_runs.ensures named;
+      worn = omega (arith, w, none, noted, told, runs);
     }
-
-pub returns-clause-named : goal.returns-clause-named
-returns-clause-named g c = λ named.
-    let e = c.in_ok-outcome.ensures.settles in
-    runs_behind c.args.self.now.graph c.settle.new.graph c.args.self.now.watchers.made c.settle.new.notes.items _ _ e.given
-    (e.named (subst (λ (ns : List RunNote). AreNotesGiven c.args.self.now.graph (map note_of ns)) (sym c.new-notes.ensures.items) (none_given c.args.self.now.graph)))
-    c.in_ok-tell_runs.ensures named

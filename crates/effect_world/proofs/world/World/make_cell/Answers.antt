@@ -13,6 +13,11 @@ use Rattle.effect_world.proofs.world.World.make_cell.Goals as goal
 pub adopt_signal-requires-clause-lone : goal.adopt_signal-requires-clause-lone
 adopt_signal-requires-clause-lone c = let same = c.in_ok-id.ensures.after.id in c.requires.owned.fresh c.in_ok-id.id (omega (arith, same))
 
+pub returns-in-Ok-clause-made : goal.returns-in-Ok-clause-made
+returns-in-Ok-clause-made c =
+    let m = c.in_ok-id.ensures.after in
+    record { next = m.id; given = m.given; worn = ap (λ (s : State). s.worn) m.state; watchers = refl }
+
 pub returns-in-Ok-clause-does : goal.returns-in-Ok-clause-does
 returns-in-Ok-clause-does c = λ hosts asked sound.
     let new : World = record { graph = c.add_cell.new.self; watchers = c.args.self.now.watchers; tables = c.adopt_signal.new.self } in

@@ -14,8 +14,19 @@ use Rattle.effect_world.specs.Wholes.{stores_of}
 use Rattle.effect_world.proofs.Worlds.{computed_done, host_same, owned_more}
 use Rattle.effect_world.proofs.world.World.make_computed.Goals as goal
 
+pub add_computed-requires-clause-given : goal.add_computed-requires-clause-given
+add_computed-requires-clause-given c = c.requires.links.given
+
+pub add_computed-requires-clause-few : goal.add_computed-requires-clause-few
+add_computed-requires-clause-few c = c.requires.links.few
+
 pub adopt_signal-requires-clause-lone : goal.adopt_signal-requires-clause-lone
 adopt_signal-requires-clause-lone c = let same = c.in_ok-id.ensures.after.id in c.requires.owned.fresh c.in_ok-id.id (omega (arith, same))
+
+pub returns-in-Ok-clause-made : goal.returns-in-Ok-clause-made
+returns-in-Ok-clause-made c =
+    let m = c.in_ok-id.ensures.after in
+    record { next = m.id; given = m.given; worn = ap (λ (s : State). s.worn) m.state; watchers = refl }
 
 pub returns-in-Ok-clause-does : goal.returns-in-Ok-clause-does
 returns-in-Ok-clause-does c = λ hosts asked a free sound.

@@ -23,58 +23,69 @@ use Rattle.effect_world.proofs.world.World.rewire.Goals as goal
 pub drop_left-requires-clause-there : goal.drop_left-requires-clause-there
 drop_left-requires-clause-there g c = λ place e. c.requires.agrees.signals.there.each place (uses_by _ c.args.id place (sym c.in_ok-left.ensures.host ∙ e))
 
-pub returns-clause-does : goal.returns-clause-does
-returns-clause-does g c = λ hosts sound.
-    let new : World = record { graph = c.rewire.new.self; watchers = c.args.self.now.watchers; tables = c.args.self.now.tables } in
+pub rewire-requires-clause-kind : goal.rewire-requires-clause-kind
+rewire-requires-clause-kind g c = c.requires.can.kind
+
+pub rewire-requires-clause-given : goal.rewire-requires-clause-given
+rewire-requires-clause-given g c = c.requires.can.links.given
+
+pub rewire-requires-clause-few : goal.rewire-requires-clause-few
+rewire-requires-clause-few g c = c.requires.can.links.few
+
+pub rewire-requires-clause-worn : goal.rewire-requires-clause-worn
+rewire-requires-clause-worn g c = c.requires.can.worn
+
+pub returns-clause-done : goal.returns-clause-done
+returns-clause-done g c = λ slacks.
+    let old : World = c.args.self.now in
+    let new : World = record { graph = c.rewire.new.self; watchers = old.watchers; tables = old.tables } in
     let r : Recipe = recipe_made (expression_of c.args.recipe) c.args.slots.items in
-    let there : are_there c.args.self.now.graph.state.signals (c.args.id ∷ r.slots) ≡ true = there_by _ _ c.in_ok-left.ensures.gone (λ q. cc) in
-    let free = sym (host_same (host_of (expression_of c.args.recipe)) c.args.self.now.tables _) ∙ c.requires.free in
-    signals_done hosts _ _ c.args.self.now new _ _ (rewire_signal c.args.id r)
-    (rewire_done hosts _ _ (stores_of c.args.self.now) (stores_of new) _ _ c.args.id r c.in_ok-left.left c.requires.kind there c.in_ok-left.ensures.after refl c.requires.agrees.signals free
-    c.in_ok-left.ensures.host c.in_ok-drop_left.ensures.asked c.tell_change.new.events.items c.in_ok-tell_change.ensures
-    c.in_ok-drop_left.ensures.events sound)
-    (framed_rewire c.args.id r) refl c.requires.agrees.owned.tables
-
-pub returns-clause-agrees : goal.returns-clause-agrees
-returns-clause-agrees g c =
-    let new : World = record { graph = c.rewire.new.self; watchers = c.args.self.now.watchers; tables = c.args.self.now.tables } in
-    let r : Recipe = recipe_made (expression_of c.args.recipe) c.args.slots.items in
-    let there : are_there c.args.self.now.graph.state.signals (c.args.id ∷ r.slots) ≡ true = there_by _ _ c.in_ok-left.ensures.gone (λ q. cc) in
-    let free = sym (host_same (host_of (expression_of c.args.recipe)) c.args.self.now.tables _) ∙ c.requires.free in
-    record {
-      signals = rewire_agreed _ _ (stores_of c.args.self.now) (stores_of new) c.args.id r c.in_ok-left.left c.requires.kind there c.in_ok-left.ensures.after refl free
-          c.in_ok-left.ensures.host c.in_ok-drop_left.ensures.asked c.requires.agrees.signals;
-      owned = owned_still c.args.self.now new c.in_ok-left.ensures.after.given refl c.requires.agrees.owned;
-    }
-
-pub returns-clause-most : goal.returns-clause-most
-returns-clause-most g c = most_left c.in_ok-left.left _ _ c.in_ok-drop_left.ensures.asked
-
-pub returns-clause-named : goal.returns-clause-named
-returns-clause-named g c = λ all.
-    let r : Recipe = recipe_made (expression_of c.args.recipe) c.args.slots.items in
-    let there : are_there c.args.self.now.graph.state.signals (c.args.id ∷ r.slots) ≡ true = there_by _ _ c.in_ok-left.ensures.gone (λ q. cc) in
-    let two = both (is_there (standing c.args.self.now.graph.state.signals c.args.id)) (are_there c.args.self.now.graph.state.signals r.slots) there in
-    named_left c.rewire.new.self c.rewire.new.self c.args.self.now.watchers.made c.in_ok-left.left _ c.tell_change.new.events.items _ refl
-    c.in_ok-drop_left.ensures.events
-    (named_changed c.rewire.new.self c.args.self.now.watchers.made c.args.events.now.items c.tell_change.new.events.items c.args.id Rewire
-    (given_same c.args.self.now.graph c.rewire.new.self c.args.id c.in_ok-left.ensures.after.given ∙ c.made-made.ensures.used.names c.args.id two.0)
-    c.in_ok-tell_change.ensures
-    (named_still c.args.self.now.graph c.rewire.new.self c.args.self.now.watchers.made c.args.self.now.watchers.made _ c.in_ok-left.ensures.after.given
-    refl all))
-
-pub returns-clause-told : goal.returns-clause-told
-returns-clause-told g c =
-    let m = one_told _ _ _ c.in_ok-tell_change.ensures in
-    let n = more_told _ _ (drop_events c.in_ok-left.left (map (λ p. record { there = is_some p.host; asks = p.count }) c.args.shelf.now.places.items)) c.in_ok-drop_left.ensures.events in
-    omega (arith, m, n)
-
-pub returns-clause-rules : goal.returns-clause-rules
-returns-clause-rules g c = λ count all.
-    let r : Recipe = recipe_made (expression_of c.args.recipe) c.args.slots.items in
-    let w : Signals = c.args.self.now.graph.state.signals in
+    let w : Signals = old.graph.state.signals in
+    let b = c.in_ok-left.ensures.after in
     let there : are_there w (c.args.id ∷ r.slots) ≡ true = there_by _ _ c.in_ok-left.ensures.gone (λ q. cc) in
     let two = both (is_there (standing w c.args.id)) (are_there w r.slots) there in
-    let here = computed_here (standing w c.args.id) two.0 c.requires.kind in
-    subst (λ (x : Signals). AreRuled count x) (sym (ap (λ (s : State). s.signals) c.in_ok-left.ensures.after.state))
-    (ruled_recipe count w c.args.id r here.0 here.1 all)
+    let here = computed_here (standing w c.args.id) two.0 c.requires.can.kind in
+    let free = sym (host_same (host_of (expression_of c.args.recipe)) old.tables _) ∙ c.requires.can.free in
+    let m = one_told _ _ _ c.in_ok-tell_change.ensures in
+    let n = more_told _ _ (drop_events c.in_ok-left.left (map (λ p. record { there = is_some p.host; asks = p.count }) c.args.shelf.now.places.items)) c.in_ok-drop_left.ensures.events in
+    let s = ap (λ (x : State). x.worn) b.state in
+    record {
+      does = λ hosts sound.
+          signals_done hosts _ _ old new _ _ (rewire_signal c.args.id r)
+          (rewire_done hosts _ _ (stores_of old) (stores_of new) _ _ c.args.id r c.in_ok-left.left c.requires.can.kind there b refl c.requires.agrees.signals free
+          c.in_ok-left.ensures.host c.in_ok-drop_left.ensures.asked c.tell_change.new.events.items c.in_ok-tell_change.ensures
+          c.in_ok-drop_left.ensures.events sound)
+          (framed_rewire c.args.id r) refl c.requires.agrees.owned.tables;
+      agrees = record {
+        signals = rewire_agreed _ _ (stores_of old) (stores_of new) c.args.id r c.in_ok-left.left c.requires.can.kind there b refl free
+            c.in_ok-left.ensures.host c.in_ok-drop_left.ensures.asked c.requires.agrees.signals;
+        owned = owned_still old new b.given refl c.requires.agrees.owned;
+      };
+      answers = c.in_ok-drop_left.ensures.answers;
+      most = most_left c.in_ok-left.left _ _ c.in_ok-drop_left.ensures.asked;
+      rules = λ count all. subst (λ (x : Signals). AreRuled count x) (sym (ap (λ (x : State). x.signals) b.state)) (ruled_recipe count w c.args.id r here.0 here.1 all);
+      given = b.given;
+      made = refl;
+      worn = omega (arith, s, m, n);
+      told = omega (arith, m, n);
+    }
+
+pub returns-clause-rewired : goal.returns-clause-rewired
+returns-clause-rewired g c =
+    let old : World = c.args.self.now in
+    let r : Recipe = recipe_made (expression_of c.args.recipe) c.args.slots.items in
+    let b = c.in_ok-left.ensures.after in
+    let there : are_there old.graph.state.signals (c.args.id ∷ r.slots) ≡ true = there_by _ _ c.in_ok-left.ensures.gone (λ q. cc) in
+    let two = both (is_there (standing old.graph.state.signals c.args.id)) (are_there old.graph.state.signals r.slots) there in
+    record {
+      signals = ap (λ (x : State). x.signals) b.state;
+      watchers = refl;
+      stays = record { given = b.given; made = refl; worn = let s = ap (λ (x : State). x.worn) b.state in omega (arith, s) };
+      named = λ all.
+          named_left c.rewire.new.self c.rewire.new.self old.watchers.made c.in_ok-left.left _ c.tell_change.new.events.items _ refl
+          c.in_ok-drop_left.ensures.events
+          (named_changed c.rewire.new.self old.watchers.made c.args.events.now.items c.tell_change.new.events.items c.args.id Rewire
+          (given_same old.graph c.rewire.new.self c.args.id b.given ∙ c.made-made.ensures.used.names c.args.id two.0)
+          c.in_ok-tell_change.ensures
+          (named_still old.graph c.rewire.new.self old.watchers.made old.watchers.made _ b.given refl all));
+    }
