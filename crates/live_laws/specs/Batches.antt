@@ -77,11 +77,11 @@ is_notice _ = false
 abbrev pub AreUntold : Environment → Machine → List Item → Type 0
 AreUntold env m is = AllByRecursion (λ (e : Entry). is_notice e ≡ false) (entries_from env m is)
 
--- A world without its signals and what is kept of them, and without what was told and what stands at the top and can't own. So the rest of a
--- machine is what it has beside a batch, a journal and these.
+-- a world without its signals and what is kept of them, and without what was told and what stands at the top and can't own
 abbrev pub unsignalled : World → World
 unsignalled w = record w { signals = no_signals; memos = no_memos; host_states = []; owned = listed w.owned; told = [] }
 
+-- the rest of a machine is what it has beside a batch, a journal and these
 abbrev pub rest_of : Machine → Machine
 rest_of m = record m { world = unsignalled m.world; batch = None; journal = None }
 
@@ -104,8 +104,8 @@ abbrev pub CollectsLaw : Type 0
 CollectsLaw = (env : Environment) (m : Machine) (is : List Item) → m.world.told ≡ [] → m.batch ≡ None →
     AllByRecursion (λ (i : Item). is_end i ≡ false) is → Collects env m (begins ∷ is)
 
--- A batch that is aborted leaves nothing behind but what was evaluated and noted in it: under each name stands what stood there as it began, so does the
--- rest of the machine, and nobody was notified.
+-- A batch that is aborted leaves nothing behind but what was evaluated and noted in it: under each name stands what stood there as it began,
+-- so does the rest of the machine, and nobody was notified.
 pub record LeavesNothing (env : Environment) (m : Machine) (is : List Item) : Type 0 where
   pub signals : (n : ℕ) → standing (machine_after env m is).world.signals n ≡ standing m.world.signals n
   pub rest : rest_of (machine_after env m is) ≡ rest_of m

@@ -20,9 +20,10 @@ pub open_block : IsWhole (codes "template t\ntext a\n") → ⊥
 unfolding lines numbered is_passed kept_lines begins_block opens closes pieces
 open_block w = let h : false ≡ true = w.blocks.0 in absurd cc
 
--- nor behind a line without its LF, which ends with `h`
+-- an `h` is no LF
 no_feed : (b : ℕ) → b ≡ 104 → b ≡ 10 → ⊥
 no_feed b is feed = omega arith
 
+-- nor behind a line without its LF, which ends with `h`
 pub open_line : IsWhole (codes "flush") → ⊥
 open_line w = no_feed 104 refl w.line

@@ -82,12 +82,13 @@ abbrev pub deeds_of_set : Option Batch → ℕ → Value → List plain.Command
 deeds_of_set None i v = plain.set i v ∷ []
 deeds_of_set (Some b) i v = plain.set_untold i v ∷ []
 
--- what an act of a handler's body does, and what acts do, in order
+-- what an act of a handler's body does
 abbrev pub deeds_of_act : Act → List plain.Command
 deeds_of_act (to_set n v) = plain.set n v ∷ []
 deeds_of_act (to_log v) = plain.log v ∷ []
 deeds_of_act a = []
 
+-- what acts do, in order
 abbrev pub deeds_of_acts : List Act → List plain.Command
 deeds_of_acts [] = []
 deeds_of_acts (a ∷ as') = deeds_of_act a ++ deeds_of_acts as'

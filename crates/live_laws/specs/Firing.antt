@@ -31,4 +31,5 @@ pub record Fires (env : Environment) (m : Machine) (page : List ℕ) (hs : List 
 -- those that run are those that wait along the way from the node up to a child of the root, the innermost first
 abbrev pub FireLaw : Type 0
 FireLaw = (env : Environment) (m : Machine) (page : List ℕ) (node : ℕ) (event : List ℕ) →
-    Fires env m page (handlings_of m.handlers (fired_of m.handlers (page_at m.pages (number_of m.names page)) node event)) (done env m (command.Fire page node event))
+    Fires env m page (handlings_of m.handlers (fired_of m.handlers (page_at m.pages (number_of m.names page)) node event))
+    (done env m (command.Fire page node event))

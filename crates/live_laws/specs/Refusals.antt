@@ -85,7 +85,8 @@ ChangeLaw = (env : Environment) (m : Machine) (c : Command) (i : ℕ) (v : Value
 pub record LeavesPages (env : Environment) (m : Machine) : Type 0 where
   pub done : step env m (item.Do (command.Bare bares.Flush))
       ≡ (let t = acted_on_pages m (flush env m.world).world in reached t.machine (t.entries ++ entry.Error refusal.Turns ∷ []))
-  pub pages : (step env m (item.Do (command.Bare bares.Flush))).machine.pages ≡ filter (λ (p : Page). is_in p.number (flush env m.world).world.pages) m.pages
+  pub pages : (step env m (item.Do (command.Bare bares.Flush))).machine.pages
+      ≡ filter (λ (p : Page). is_in p.number (flush env m.world).world.pages) m.pages
 
 -- So it is with each flush that is refused for its turns. While a batch is open a flush makes none, since it is refused for that before.
 abbrev pub RefusedFlushLaw : Type 0

@@ -28,16 +28,19 @@ use Rattle.live_model.specs.Examples.{told_by, a_cell, int, a_host, a_template, 
 abbrev pub number : ℕ → Tree
 number n = literal (int n)
 
--- a statement of one line, before others
+-- a cell is set by a formula, before other statements
 abbrev pub line_set : ℕ → Tree → Stated → Stated
 line_set t f rest = plain (p.Set t f) rest
 
+-- a formula is logged
 abbrev pub line_log : Tree → Stated → Stated
 line_log f rest = plain (p.Log f) rest
 
+-- a formula is noted to be logged at the cleanup
 abbrev pub line_cleanup_log : Tree → Stated → Stated
 line_cleanup_log f rest = plain (p.CleanupLog f) rest
 
+-- a thing is disposed
 abbrev pub line_dispose : ℕ → Stated → Stated
 line_dispose t rest = plain (p.Dispose t) rest
 
@@ -45,13 +48,15 @@ line_dispose t rest = plain (p.Dispose t) rest
 abbrev pub simple : Stated → List (List ℕ) → List (List ℕ) → Bodies
 simple ss targets names = body ss targets names no_bodies [] no_bodies
 
--- commands
+-- an effect of a body is made
 abbrev pub an_effect : List ℕ → Bodies → Item
 an_effect n b = item.Do (command.Effect n b None)
 
+-- an owner is made
 abbrev pub an_owner : List ℕ → Item
 an_owner n = item.Do (command.Owner n None)
 
+-- a flush
 abbrev pub a_flush : Item
 a_flush = item.Do (command.Bare bares.Flush)
 
@@ -59,10 +64,11 @@ a_flush = item.Do (command.Bare bares.Flush)
 abbrev pub child : List ℕ → List ℕ → Label
 child n path = record { name = n; path = path }
 
--- a body was evaluated, and a whole number was logged
+-- a body was evaluated
 abbrev pub evaluated : List ℕ → List ℕ → List (List ℕ) → Entry
 evaluated n path reads = entry.Effect (child n path) reads
 
+-- a whole number was logged
 abbrev pub logged : ℕ → Entry
 logged n = entry.Log (value.Int (pos n))
 
@@ -111,7 +117,8 @@ page_told = refl
 -- a = 1; b = 2; the effect disposes b, sets it, which is refused, and logs a
 abbrev pub refused_act : List Item
 refused_act = a_cell (codes "a") (int 1) ∷ a_cell (codes "b") (int 2)
-    ∷ an_effect (codes "e") (simple (line_dispose 0 (line_set 0 (number 3) (line_log (slot 0) no_more))) (codes "b" ∷ []) (codes "a" ∷ [])) ∷ a_flush ∷ []
+    ∷ an_effect (codes "e") (simple (line_dispose 0 (line_set 0 (number 3) (line_log (slot 0) no_more))) (codes "b" ∷ []) (codes "a" ∷ []))
+    ∷ a_flush ∷ []
 
 -- what it tells
 pub refused_act_told : told_by 0 refused_act
@@ -173,7 +180,8 @@ refusals = a_cell (codes "a") (int 1) ∷ item.Do (command.Effect (codes "e") (s
     ∷ an_effect (codes "e") (simple (line_log (slot 0) (line_set 0 (number 1) no_more)) (codes "z" ∷ []) (codes "a" ∷ []))
     ∷ an_effect (codes "e") (simple (line_dispose 0 no_more) (codes "e" ∷ []) [])
     ∷ a_host (codes "h") 0 (codes "a" ∷ [])
-    ∷ an_effect (codes "f") (body (rewire 0 no_more) (codes "h" ∷ []) [] no_bodies (record { target = 0; source = stated.host 6; names = [] } ∷ []) no_bodies)
+    ∷ an_effect (codes "f") (body (rewire 0 no_more) (codes "h" ∷ []) [] no_bodies
+    (record { target = 0; source = stated.host 6; names = [] } ∷ []) no_bodies)
     ∷ an_effect (codes "f") (body (rewire 0 no_more) (codes "h" ∷ []) [] no_bodies
     (record { target = 0; source = stated.host 0; names = codes "a" ∷ [] } ∷ []) no_bodies) ∷ a_flush ∷ []
 

@@ -27,10 +27,11 @@ use Rattle.live_model.specs.RowExamples.{words}
 
 -- ---- words for the examples
 
--- a handler of clicks at a line of the template t, and a click at a node of the page p
+-- a handler of clicks at a line of the template t
 abbrev pub a_handler : ℕ → Bodies → Item
 a_handler line b = item.Do (command.On (codes "t") line (codes "click") b)
 
+-- a click at a node of the page p
 abbrev pub a_click : ℕ → Item
 a_click node = item.Do (command.Fire (codes "p") node (codes "click"))
 

@@ -43,10 +43,11 @@ a_cell n v = item.Do (command.Cell n v None None)
 abbrev pub int : ℕ → Scalar
 int n = scalar.Int (pos n)
 
--- a computed of a formula, and one of a host formula
+-- a computed of a formula is made
 abbrev pub a_computed : List ℕ → Tree → List (List ℕ) → Item
 a_computed n t names = item.Do (command.Computed n (source.Formula (t, names)) None)
 
+-- a computed of a host formula is made
 abbrev pub a_host : List ℕ → ℕ → List (List ℕ) → Item
 a_host n place names = item.Do (command.Computed n (source.Host place names) None)
 
@@ -54,30 +55,35 @@ a_host n place names = item.Do (command.Computed n (source.Host place names) Non
 abbrev pub a_template : List ℕ → List (Line Tree) → List (List ℕ) → Item
 a_template n lines names = item.Do (command.Template n (record { lines = lines; names = names }))
 
--- a cell is set, a name is asked for, a thing is disposed, and what a watcher has pending is asked for
+-- a cell is set
 abbrev pub a_set : List ℕ → Scalar → Item
 a_set n v = item.Do (command.Set n v)
 
+-- a name is asked for
 abbrev pub a_get : List ℕ → Item
 a_get n = item.Do (command.Named verb.Get n)
 
+-- a thing is disposed
 abbrev pub a_dispose : List ℕ → Item
 a_dispose n = item.Do (command.Named verb.Dispose n)
 
+-- it is asked what a watcher has pending
 abbrev pub a_pending : List ℕ → Item
 a_pending n = item.Do (command.Named verb.Pending n)
 
--- a watcher is made, and watches signals
+-- a watcher is made
 abbrev pub a_watcher : List ℕ → Item
 a_watcher n = item.Do (command.Watcher n None)
 
+-- a watcher watches these signals too
 abbrev pub a_watch : List ℕ → List (List ℕ) → Item
 a_watch n signals = item.Do (command.Watch n signals)
 
--- a name comes to a whole number, and a refusal
+-- a name comes to a whole number
 abbrev pub comes_to : List ℕ → ℕ → Entry
 comes_to n v = entry.Outcome n (Good (value.Int (pos v)))
 
+-- a refusal is told
 abbrev pub error : Refusal → Entry
 error r = entry.Error r
 

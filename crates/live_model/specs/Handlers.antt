@@ -14,11 +14,12 @@ pub record Handler : Type 0 where
   pub awaited : Awaited
   pub body : Body
 
--- the body of a handler, by its place
+-- the body of a handler, and an empty one where there is none
 abbrev pub body_or_none : Option Handler → Body
 body_or_none None = no_body
 body_or_none (Some h) = h.body
 
+-- the body of the handler at a place
 abbrev pub handler_body : List Handler → ℕ → Body
 handler_body hs i = body_or_none (slice_get hs i)
 

@@ -20,8 +20,8 @@ use Rattle.signal_model.specs.Marks.{Mark, mark_of}
 use Rattle.signal_model.specs.Sound.{kept_outcome, names_of}
 use Rattle.effect_model.specs.Bodies.{Act, to_set, to_log, Body, BodyResult, to_do, failed_by, body_evaluation}
 use Rattle.effect_model.specs.Owners.{Thing, the_effect}
-use Rattle.effect_model.specs.Worlds.{Environment, HostState, unused, Refused, thing_gone, host_taken, still_due, Event, ran, notified, frozen, logged}
-use Rattle.effect_model.specs.Worlds.{body_ran, failed, cleaned, gone, dropped_host, World, settle, at_rest, tell}
+use Rattle.effect_model.specs.Worlds.{Environment, HostState, unused, Refused, thing_gone, host_taken, still_due, Event, ran, notified}
+use Rattle.effect_model.specs.Worlds.{frozen, logged, body_ran, failed, cleaned, gone, dropped_host, World, settle, at_rest, tell}
 use Rattle.effect_model.specs.Worlds as worlds
 use Rattle.effect_model.specs.Acts.{set_cell, host_of, with_use, rewire_signal, forget, dispose_thing}
 use Rattle.effect_model.specs.Commands.{new_world, with_new_cell, with_new_computed, with_new_owner, with_new_effect, with_new_page, with_new_watcher}
@@ -55,7 +55,8 @@ use Rattle.live_entries.specs.declared.refusal.Refusal.{Refusal}
 use Rattle.live_entries.specs.declared.refusal.Refusal.TheVariants as refusal
 use Rattle.live_model.specs.declared.names.Kind.{Kind}
 use Rattle.live_model.specs.declared.names.Kind.TheVariants as kind
-use Rattle.live_model.specs.Labels.{Labels, no_labels, name_at, named as a_label, label_at, label_of, with_label, relabelled, labels_after, named_count}
+use Rattle.live_model.specs.Labels.{Labels, no_labels, name_at, named as a_label, label_at, label_of, with_label, relabelled}
+use Rattle.live_model.specs.Labels.{labels_after, named_count}
 use Rattle.live_model.specs.Handlers.{Handler, Handling, fired_of, handlings_of, has_node}
 use Rattle.live_model.specs.Links.{recipe_of, owner_of, linked_alone, linked_body, linked_template}
 use Rattle.live_model.specs.Names.{Names, meaning_of, number_of, thing_named, first_refusal, first_within}
@@ -79,7 +80,8 @@ pub record Machine : Type 0 where
 
 -- nothing was made yet, and there are so many host formulas
 abbrev pub empty : ℕ → Machine
-empty hosts = record { names = []; labels = no_labels; world = new_world hosts; batch = None; journal = None; templates = []; handlers = []; pages = [] }
+empty hosts =
+    record { names = []; labels = no_labels; world = new_world hosts; batch = None; journal = None; templates = []; handlers = []; pages = [] }
 
 -- a machine and what was told on the way to it
 pub record Told : Type 0 where

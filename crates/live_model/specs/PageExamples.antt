@@ -50,25 +50,31 @@ element n name inner rest = node n (Element name []) inner rest
 abbrev pub a_text : ℕ → List ℕ → Forest Kind
 a_text n t = node n (Text t) none none
 
--- lines of a template
+-- a line that shows a text
 abbrev pub text_line : Tree → Line Tree
 text_line f = line.Over purpose.Text f
 
+-- a line of an attribute
 abbrev pub attr_line : List ℕ → Tree → Line Tree
 attr_line n f = line.Over (purpose.Attr n) f
 
+-- a line that chooses
 abbrev pub if_line : Tree → Line Tree
 if_line f = line.Over purpose.If f
 
+-- a line that goes over rows
 abbrev pub each_line : Tree → Line Tree
 each_line f = line.Over purpose.Each f
 
+-- a line of an element
 abbrev pub tag_line : List ℕ → Line Tree
 tag_line n = line.Plain (mark.Tag n)
 
+-- what stands behind it is shown otherwise
 abbrev pub else_line : Line Tree
 else_line = line.Plain mark.Else
 
+-- the end of what was opened last
 abbrev pub end_line : Line Tree
 end_line = line.Plain mark.End
 
@@ -94,7 +100,8 @@ chosen_told = refl
 
 -- the lines of a list, each with the row's t
 abbrev pub lines_of_rows : List (Line Tree)
-lines_of_rows = tag_line (codes "ul") ∷ each_line (slot 0) ∷ tag_line (codes "li") ∷ text_line (row_field (codes "t")) ∷ end_line ∷ end_line ∷ end_line ∷ []
+lines_of_rows = tag_line (codes "ul") ∷ each_line (slot 0) ∷ tag_line (codes "li") ∷ text_line (row_field (codes "t"))
+    ∷ end_line ∷ end_line ∷ end_line ∷ []
 
 -- three rows are shown; the third becomes the first, the second goes, one comes behind, and the first of before changes its text. Then that one
 -- goes, and another one comes with its key.
@@ -108,8 +115,8 @@ rows_change = a_list (codes "l") (codes "t" ∷ []) ∷ an_insert (codes "l") 0 
 
 -- a row keeps its node as long as its key stands on the page
 pub rows_change_told : ops_of rows_change
-    ≡ op (codes "p") (OpInsert 0 0 1 (Element (codes "ul") []) (element 2 (codes "li") (a_text 3 (codes "A")) (element 4 (codes "li") (a_text 5 (codes "B"))
-    (element 6 (codes "li") (a_text 7 (codes "C")) none))))
+    ≡ op (codes "p") (OpInsert 0 0 1 (Element (codes "ul") []) (element 2 (codes "li") (a_text 3 (codes "A"))
+    (element 4 (codes "li") (a_text 5 (codes "B")) (element 6 (codes "li") (a_text 7 (codes "C")) none))))
     ∷ op (codes "p") (OpRemove 4) ∷ op (codes "p") (OpMove 6 0) ∷ op (codes "p") (OpInsert 1 2 8 (Element (codes "li") []) (a_text 9 (codes "D")))
     ∷ op (codes "p") (OpText 3 (codes "Z")) ∷ op (codes "p") (OpMove 2 0) ∷ op (codes "p") (OpText 3 (codes "Q")) ∷ []
 unfolding address

@@ -25,16 +25,19 @@ use Rattle.live_model.specs.Examples.{told_by, a_cell, a_computed, a_set, a_get,
 abbrev pub a_list : List ℕ → List (List ℕ) → Item
 a_list n fields = item.Do (command.List n fields None)
 
--- a row is put at a place, taken out, moved to a place, and given a value in a field
+-- a row is put at a place
 abbrev pub an_insert : List ℕ → ℕ → List ℕ → List Scalar → Item
 an_insert n place key values = item.Do (command.Edit n (edit.Insert place key values))
 
+-- a row is taken out
 abbrev pub a_remove : List ℕ → List ℕ → Item
 a_remove n key = item.Do (command.Edit n (edit.Remove key))
 
+-- a row is moved to a place
 abbrev pub a_move : List ℕ → List ℕ → ℕ → Item
 a_move n key place = item.Do (command.Edit n (edit.Move key place))
 
+-- a row is given a value in a field
 abbrev pub a_put : List ℕ → List ℕ → List ℕ → Scalar → Item
 a_put n key field v = item.Do (command.Edit n (edit.Put key field v))
 

@@ -23,9 +23,9 @@ a_why n = item.Do (command.Named verb.Why n)
 -- b = a + 1; d = b * 2. After a set of a, and after a rewiring of b, it is asked why d and b ran.
 abbrev pub led_back : List Item
 led_back = alone bares.Record ∷ a_cell (codes "a") (int 1) ∷ a_computed (codes "b") (binary Add (slot 0) (literal (int 1))) (codes "a" ∷ [])
-    ∷ a_computed (codes "d") (binary Mul (slot 0) (literal (int 2))) (codes "b" ∷ []) ∷ a_get (codes "d") ∷ a_set (codes "a") (int 5) ∷ a_get (codes "d")
-    ∷ a_why (codes "d") ∷ a_why (codes "b") ∷ item.Do (command.Rewire (codes "b") (source.Formula (literal (int 3), []))) ∷ a_get (codes "d")
-    ∷ a_why (codes "d") ∷ []
+    ∷ a_computed (codes "d") (binary Mul (slot 0) (literal (int 2))) (codes "b" ∷ []) ∷ a_get (codes "d") ∷ a_set (codes "a") (int 5)
+    ∷ a_get (codes "d") ∷ a_why (codes "d") ∷ a_why (codes "b") ∷ item.Do (command.Rewire (codes "b") (source.Formula (literal (int 3), [])))
+    ∷ a_get (codes "d") ∷ a_why (codes "d") ∷ []
 
 -- what it tells
 pub led_back_told : untraced (told_by 0 led_back)
@@ -46,8 +46,9 @@ begun_late_told = refl
 
 -- A journal begins once. While a batch is open neither is done. A value that an abort gives back is noted.
 abbrev pub noted_back : List Item
-noted_back = alone bares.Record ∷ alone bares.Record ∷ a_cell (codes "a") (int 1) ∷ a_computed (codes "b") (slot 0) (codes "a" ∷ []) ∷ a_get (codes "b")
-    ∷ alone bares.Begin ∷ a_set (codes "a") (int 2) ∷ a_why (codes "b") ∷ alone bares.Record ∷ alone bares.Abort ∷ a_get (codes "b") ∷ a_why (codes "b") ∷ []
+noted_back = alone bares.Record ∷ alone bares.Record ∷ a_cell (codes "a") (int 1) ∷ a_computed (codes "b") (slot 0) (codes "a" ∷ [])
+    ∷ a_get (codes "b") ∷ alone bares.Begin ∷ a_set (codes "a") (int 2) ∷ a_why (codes "b") ∷ alone bares.Record ∷ alone bares.Abort
+    ∷ a_get (codes "b") ∷ a_why (codes "b") ∷ []
 
 -- what it tells
 pub noted_back_told : untraced (told_by 0 noted_back)
