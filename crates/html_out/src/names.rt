@@ -5,42 +5,36 @@ ghost use Rattle.html_out.specs.Html.{good_name, is_raw, is_void};
 use sig_base::{MOST_TAG, is_tag};
 
 /// Whether an element of this name has neither children nor an end tag when it is serialised (WHATWG HTML, serialising fragments).
-#[tactic(auto, unfolding(crate::specs::Html::is_void))]
+#[tactic(auto, using(crate::proofs::Lengths::unlike), unfolding(crate::specs::Html::is_void))]
 pub fn is_void(name: &str) -> bool
     ensures { result ≡ is_void name.now }
 {
-    matches!(
-        name,
-        "area"
-            | "base"
-            | "br"
-            | "col"
-            | "embed"
-            | "hr"
-            | "img"
-            | "input"
-            | "link"
-            | "meta"
-            | "source"
-            | "track"
-            | "wbr"
-            | "basefont"
-            | "bgsound"
-            | "frame"
-            | "keygen"
-            | "param"
-    )
+    match name.len() {
+        2 => matches!(name, "br" | "hr"),
+        3 => matches!(name, "col" | "img" | "wbr"),
+        4 => matches!(name, "area" | "base" | "link" | "meta"),
+        5 => matches!(name, "embed" | "input" | "track" | "frame" | "param"),
+        6 => matches!(name, "source" | "keygen"),
+        7 => name == "bgsound",
+        8 => name == "basefont",
+        _ => false,
+    }
 }
 
 /// Whether the texts in an element of this name are written as they are (WHATWG HTML, serialising fragments, scripting disabled).
-#[tactic(auto, unfolding(crate::specs::Html::is_raw))]
+#[tactic(auto, using(crate::proofs::Lengths::unlike), unfolding(crate::specs::Html::is_raw))]
 pub fn is_raw(name: &str) -> bool
     ensures { result ≡ is_raw name.now }
 {
-    matches!(
-        name,
-        "style" | "script" | "xmp" | "iframe" | "noembed" | "noframes" | "plaintext"
-    )
+    match name.len() {
+        3 => name == "xmp",
+        5 => name == "style",
+        6 => matches!(name, "script" | "iframe"),
+        7 => name == "noembed",
+        8 => name == "noframes",
+        9 => name == "plaintext",
+        _ => false,
+    }
 }
 
 /// Whether this is a name of an element or of an attribute: a small letter, then small letters, digits and `-`, at most
