@@ -1,5 +1,5 @@
 -- What is judged of lines that were read is judged of what they say.
-use Rattle.std.proofs.Common.{◌≡◌, ◌≤◌, ℕ, Bool, true, false, cond, List, [], ◌∷◌, length, map, Option, Some, None, refl, ap, ap₂, ◌∙◌, arith}
+use Rattle.std.proofs.Common.{◌≡◌, ◌≤◌, ℕ, false, List, [], ◌∷◌, length, map, Option, Some, None, refl, ap, ap₂, ◌∙◌, arith}
 use Rattle.std.specs.Prelude.{option_map, Result, Ok, nat_lt}
 use Rattle.std.specs.Option.{option_or}
 use Rattle.std.proofs.lemmas.Bool.Decides.{nat_tests}
@@ -7,9 +7,7 @@ use Rattle.std.proofs.lemmas.List.{length-map}
 use Rattle.sig_base.specs.declared.scalar.Scalar.{Scalar}
 use Rattle.formula_text.specs.declared.wired.Allow.{Allow}
 use Rattle.formula_text.specs.declared.wired.FormulaFault.{FormulaFault}
-use Rattle.formula_text.specs.declared.wired.FormulaFault.TheVariants as fault
-use Rattle.formula_text.specs.Grammar.{Draft}
-use Rattle.formula_text.specs.Slots.{refusal}
+use Rattle.formula_text.proofs.Shared.{IsRefusal, nothing, untracked, row_here, nest, long, sources, either, formula_refusal, neither, not_chosen}
 use Rattle.line_forms.specs.Forms.{Args, Form, Contents, Of, One, Part, arguments, fixed, formula, key, listed, many, one, part, perhaps, value}
 use Rattle.line_forms.specs.Told.{fault_along, fault_in, fault_of_arguments, fault_of_list, fault_of_one, fault_of_scalar, first_long, unless_faulty}
 use Rattle.script_lines.specs.Lines.{NumberedLine}
@@ -62,63 +60,40 @@ all_judged allow depth (x ∷ xs) =
 -- ---- nothing is wrong with lines that aren't refused
 
 -- what a line can be refused for
-data IsCause : Option FormulaFault → Type 0 where
-  nothing : IsCause None
-  untracked : IsCause (Some fault.UntrackHere)
-  row_here : IsCause (Some fault.ItHere)
-  nest : IsCause (Some fault.Nest)
-  long : IsCause (Some fault.TextLong)
-  sources : IsCause (Some fault.Sources)
-
-either : (b : Bool) (x y : Option FormulaFault) → IsCause x → IsCause y → IsCause (cond b x y)
-either true x y p q = p
-either false x y p q = q
-
-formula_cause : (allow : Allow) (x : Draft) → IsCause (refusal allow x)
-formula_cause allow x = either _ _ _ untracked (either _ _ _ row_here (either _ _ _ nest (either _ _ _ long (either _ _ _ sources nothing))))
-
-arguments_cause : (ns : List (List ℕ)) → IsCause (fault_of_arguments ns)
+arguments_cause : (ns : List (List ℕ)) → IsRefusal (fault_of_arguments ns)
 arguments_cause ns = either _ _ _ sources nothing
 
-or_cause : (o q : Option FormulaFault) → IsCause o → IsCause q → IsCause (option_or o q)
+or_cause : (o q : Option FormulaFault) → IsRefusal o → IsRefusal q → IsRefusal (option_or o q)
 or_cause None q c d = d
 or_cause (Some f) q c d = c
 
-long_cause : (vs : List Scalar) → IsCause (first_long vs)
+long_cause : (vs : List Scalar) → IsRefusal (first_long vs)
 long_cause [] = nothing
 long_cause (v ∷ vs) = or_cause (fault_of_scalar v) (first_long vs) (either _ _ _ long nothing) (long_cause vs)
 
-one_cause : (o : One) (v : Of o) → IsCause (fault_of_one o v)
+one_cause : (o : One) (v : Of o) → IsRefusal (fault_of_one o v)
 one_cause value v = either _ _ _ long nothing
 one_cause key t = either _ _ _ long nothing
 one_cause _ v = nothing
 
-list_cause : (o : One) (vs : List (Of o)) → IsCause (fault_of_list o vs)
+list_cause : (o : One) (vs : List (Of o)) → IsRefusal (fault_of_list o vs)
 list_cause value vs = long_cause vs
 list_cause _ vs = nothing
 
-part_cause : (allow : Allow) (p : Part) (v : Contents p) → IsCause (fault_in allow p v)
+part_cause : (allow : Allow) (p : Part) (v : Contents p) → IsRefusal (fault_in allow p v)
 part_cause allow (one o) v = one_cause o v
 part_cause allow (perhaps w o) v = nothing
 part_cause allow (many o) vs = list_cause o vs
 part_cause allow (listed o) vs = list_cause o vs
 part_cause allow arguments ns = arguments_cause ns
-part_cause allow formula f = formula_cause allow f
+part_cause allow formula f = formula_refusal allow f
 
-line_cause : (allow : Allow) (ps : Form) (a : Args ps) → IsCause (fault_along allow ps a)
+line_cause : (allow : Allow) (ps : Form) (a : Args ps) → IsRefusal (fault_along allow ps a)
 line_cause allow [] a = nothing
 line_cause allow (fixed l ∷ ps) a = line_cause allow ps a
 line_cause allow (part p ∷ ps) a = or_cause (fault_in allow p a.0) (fault_along allow ps a.1) (part_cause allow p a.0) (line_cause allow ps a.1)
 
-pub neither : {A : Type 0} (o p : Option A) → option_or o p ≡ None → (o ≡ None) × (p ≡ None)
-neither None p e = (refl, e)
-neither (Some x) p e = absurd cc
-
-pub not_chosen : {A : Type 0} (b : Bool) (x : A) (o : Option A) → cond b (Some x) o ≡ None → (b ≡ false) × (o ≡ None)
-not_chosen true x o e = absurd cc
-not_chosen false x o e = (refl, e)
-
-no_cause : (o : Option FormulaFault) → IsCause o → missing o ≡ None → high o ≡ None → excess o ≡ None → o ≡ None
+no_cause : (o : Option FormulaFault) → IsRefusal o → missing o ≡ None → high o ≡ None → excess o ≡ None → o ≡ None
 no_cause _ nothing m h e = refl
 no_cause _ untracked m h e = absurd cc
 no_cause _ row_here m h e = absurd cc

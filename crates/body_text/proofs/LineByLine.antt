@@ -1,11 +1,10 @@
 -- What is read line by line.
-use Rattle.std.proofs.Common.{◌≡◌, ◌<◌, ◌≤◌, ℕ, zero, suc, ◌+◌, List, [], ◌∷◌, length, map, get_or, drop, sym, ap, subst, ◌∙◌, inr, arith}
+use Rattle.std.proofs.Common.{◌≡◌, ◌<◌, ◌≤◌, ℕ, ◌+◌, List, ◌∷◌, length, map, get_or, drop, sym, ap, subst, ◌∙◌, inr, arith}
 use Rattle.std.specs.Prelude.{IsTrue}
-use Rattle.std.specs.List.{All}
-use Rattle.std.proofs.lemmas.List.{drop_more}
 use Rattle.script_lines.specs.declared.line.NumberedLine as held
 use Rattle.script_lines.specs.Lines.{NumberedLine}
 use Rattle.script_lines.specs.Views as script
+use Rattle.script_lines.proofs.Shared.{lines_from}
 use Rattle.body_text.specs.declared.allowance.Allowance.{Allowance}
 use Rattle.body_text.specs.declared.judge.ReadLine.{ReadLine}
 use Rattle.body_text.specs.declared.line.Found.{Found}
@@ -29,11 +28,6 @@ found_at allowance depth bytes f h = record { said = h.0; writes = h.1; stands =
 
 after_line : (allowance : Allowance) (n m : ℕ) (bytes : List ℕ) (f : Found) (a : FoundAt allowance n bytes f) → m ≡ moved n f.kind → m ≡ moved n (kind_of (said_line a.said))
 after_line allowance n m bytes f a e = e ∙ ap (λ (g : Found). moved n g.kind) a.is
-
--- the lines from a place on are the one there and those behind it
-lines_from : (ls : List held.NumberedLine) (i : ℕ) (d : held.NumberedLine) → i < length ls
-    → map script.line_of (drop i ls) ≡ script.line_of (get_or ls i d) ∷ map script.line_of (drop (i + 1) ls)
-lines_from ls i d h = ap (map script.line_of) (drop_more ls i d h)
 
 -- a line begins at most one more
 pub one_deeper : (n : ℕ) (k : LineKind) → moved n k ≤ n + 1
@@ -68,12 +62,3 @@ pub left_open : (allowance : Allowance) (ls : List NumberedLine) (rs : List Read
 left_open allowance ls rs to a h =
     let s = says_read allowance 0 ls rs to a in
     record { xs = s.xs; say = s.say; begun = subst (λ (n : ℕ). 0 < n) (sym s.end) h }
-
--- lines that are held and have at most so many bytes
-pub short_held : (n : ℕ) (ls : List held.NumberedLine) (all : List NumberedLine) → map script.line_of ls ≡ all → All (λ l. length l.1 ≤ n) all → All (λ l. length l.text.now ≤ n) ls
-short_held n ls all e h = held_short ls (subst (λ (ms : List NumberedLine). All (λ l. length l.1 ≤ n) ms) (sym e) h)
-  where
-    held_short : (ls : List held.NumberedLine) → All (λ l. length l.1 ≤ n) (map script.line_of ls) → All (λ l. length l.text.now ≤ n) ls
-    held_short [] h k d within = absurd (omega arith)
-    held_short (l ∷ ls) h zero d within = h 0 (script.line_of d) (omega arith)
-    held_short (l ∷ ls) h (suc k) d within = held_short ls (λ j e w. h (suc j) e (omega arith)) k d (omega arith)

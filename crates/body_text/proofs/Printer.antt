@@ -18,7 +18,7 @@ use Rattle.body_text.specs.Places.{kind_of, moved, places}
 use Rattle.body_text.specs.Verdicts.{Answer, IsRead, faulty, unended, says, Say, Sayings, answer_of, said_lines, unless_refused}
 use Rattle.body_text.specs.Statements.{Statements, body_of, lines_of}
 use Rattle.body_text.specs.Printer.{body_text, bytes_of, ended_line, lines_of_text, lines_text, meaning, text_of}
-use Rattle.body_text.proofs.Judgements.{neither}
+use Rattle.formula_text.proofs.Shared.{neither}
 use Rattle.body_text.proofs.Semantics.{meant_back}
 
 -- ---- a line says again what it said

@@ -9,7 +9,8 @@ use Rattle.body_text.specs.declared.line.Line.{Line}
 use Rattle.body_text.specs.declared.line.Line.TheVariants.{End}
 use Rattle.body_text.specs.declared.lists.Lists.{Lists}
 use Rattle.body_text.specs.Names.{GoOn}
-use Rattle.body_text.specs.Statements.{Statement, Statements, done, plain, rewire, when, effect, lines_of, with_formula, with_target, with_own, with_targets, effects_of, own_effects, own_rewires, rewirings_of, placed, placed_line}
+use Rattle.body_text.specs.Statements.{Statement, Statements, done, plain, rewire, when, effect, lines_of, with_formula, with_target, with_own}
+use Rattle.body_text.specs.Statements.{with_targets, effects_of, own_effects, own_rewires, rewirings_of, placed, placed_line}
 
 -- statements, and others behind them
 abbrev pub appended : Statements → Statements → Statements

@@ -76,7 +76,7 @@ rewirings_of ts (rewire n s rest) = rewiring_of (slot_of ts n) s ∷ rewirings_o
 rewirings_of ts (when x inner rest) = rewirings_of ts inner ++ rewirings_of ts rest
 rewirings_of ts (effect inner rest) = rewirings_of ts rest
 
--- how many of its own statements are rewirings, and how many nested effects
+-- how many of its own statements are rewirings
 abbrev pub own_rewires : Statements → ℕ
 own_rewires done = 0
 own_rewires (plain a rest) = own_rewires rest
@@ -84,6 +84,7 @@ own_rewires (rewire n s rest) = 1 + own_rewires rest
 own_rewires (when x inner rest) = own_rewires inner + own_rewires rest
 own_rewires (effect inner rest) = own_rewires rest
 
+-- how many of its own statements are nested effects
 abbrev pub own_effects : Statements → ℕ
 own_effects done = 0
 own_effects (plain a rest) = own_effects rest

@@ -1,12 +1,11 @@
 -- What is judged of lines that were read is judged of what they say.
-use Rattle.std.proofs.Common.{◌≡◌, ℕ, Bool, true, false, cond, List, [], ◌∷◌, map, Option, Some, None, refl, ap, ap₂, ◌∙◌}
+use Rattle.std.proofs.Common.{◌≡◌, ℕ, Bool, List, [], ◌∷◌, map, Option, Some, None, refl, ap, ap₂, ◌∙◌}
 use Rattle.std.specs.Prelude.{option_map, Ok}
-use Rattle.std.specs.Option.{option_or}
 use Rattle.formula_text.specs.declared.wired.Allow.{Allow}
 use Rattle.formula_text.specs.declared.wired.FormulaFault.{FormulaFault}
-use Rattle.formula_text.specs.declared.wired.FormulaFault.TheVariants as fault
 use Rattle.formula_text.specs.Grammar.{Draft}
 use Rattle.formula_text.specs.Slots.{Wiring, refusal, wired}
+use Rattle.formula_text.proofs.Shared.{IsRefusal, nothing, untracked, row_here, nest, long, sources, formula_refusal, neither, not_chosen}
 use Rattle.line_forms.specs.Told.{unless_faulty}
 use Rattle.script_lines.specs.Lines.{NumberedLine}
 use Rattle.tpl_syntax.specs.declared.fault.TemplateWhy.{TemplateWhy}
@@ -78,38 +77,15 @@ all_judged p (x ∷ xs) =
 
 -- ---- nothing is wrong with lines that aren't refused
 
--- what a formula can be refused for
-data IsCause : Option FormulaFault → Type 0 where
-  nothing : IsCause None
-  untrack : IsCause (Some fault.UntrackHere)
-  row : IsCause (Some fault.ItHere)
-  nest : IsCause (Some fault.Nest)
-  long : IsCause (Some fault.TextLong)
-  sources : IsCause (Some fault.Sources)
+-- what a line can be refused for
+line_refusal : (p : Place) (l : Line Draft) → IsRefusal (fault_of p l)
+line_refusal p (line.Plain m) = nothing
+line_refusal p (line.Over u x) = formula_refusal (allowed p) x
 
-either : (b : Bool) (x y : Option FormulaFault) → IsCause x → IsCause y → IsCause (cond b x y)
-either true x y p q = p
-either false x y p q = q
-
-formula_cause : (a : Allow) (x : Draft) → IsCause (refusal a x)
-formula_cause a x = either _ _ _ untrack (either _ _ _ row (either _ _ _ nest (either _ _ _ long (either _ _ _ sources nothing))))
-
-line_cause : (p : Place) (l : Line Draft) → IsCause (fault_of p l)
-line_cause p (line.Plain m) = nothing
-line_cause p (line.Over u x) = formula_cause (allowed p) x
-
-pub neither : {A : Type 0} (o p : Option A) → option_or o p ≡ None → (o ≡ None) × (p ≡ None)
-neither None p e = (refl, e)
-neither (Some x) p e = absurd cc
-
-not_chosen : {A : Type 0} (b : Bool) (x : A) (o : Option A) → cond b (Some x) o ≡ None → o ≡ None
-not_chosen true x o e = absurd cc
-not_chosen false x o e = e
-
-no_cause : (o : Option FormulaFault) → IsCause o → missing o ≡ None → high o ≡ None → excess o ≡ None → o ≡ None
+no_cause : (o : Option FormulaFault) → IsRefusal o → missing o ≡ None → high o ≡ None → excess o ≡ None → o ≡ None
 no_cause _ nothing m h e = refl
-no_cause _ untrack m h e = absurd cc
-no_cause _ row m h e = absurd cc
+no_cause _ untracked m h e = absurd cc
+no_cause _ row_here m h e = absurd cc
 no_cause _ nest m h e = absurd cc
 no_cause _ long m h e = absurd cc
 no_cause _ sources m h e = absurd cc
@@ -119,14 +95,15 @@ no_fault p l m e =
     let w = fault_of p l in
     let a = neither (missing w) _ m in
     let b = neither (in_element (content_at p.levels) (is_bare_text l) (role_of l)) _ a.1 in
-    no_cause w (line_cause p l) a.0 (not_chosen (is_nested p (role_of l)) why.Nest (high w) b.1) e
+    no_cause w (line_refusal p l) a.0 (not_chosen (is_nested p (role_of l)) why.Nest (high w) b.1).1 e
 
 -- nothing is wrong with the formulas of these lines
 abbrev pub AllSound : Place → Sayings → Type 0
 AllSound p [] = Unit {0}
 AllSound p (x ∷ xs) = (fault_of p (said_line x.1) ≡ None) × AllSound (moved p (said_line x.1)) xs
 
-no_why : (k : ℕ) (o : Option TemplateWhy) → option_map (fault_at k) o ≡ None → o ≡ None
+-- a line in which nothing is wrong has no fault
+pub no_why : (k : ℕ) (o : Option TemplateWhy) → option_map (fault_at k) o ≡ None → o ≡ None
 no_why k None e = refl
 no_why k (Some w) e = absurd cc
 

@@ -1,11 +1,10 @@
 -- What is read line by line.
-use Rattle.std.proofs.Common.{◌≡◌, ◌<◌, ◌≤◌, ℕ, zero, suc, ◌+◌, false, List, [], ◌∷◌, length, map, get_or, drop, sym, ap, subst, ◌∙◌, inr, arith}
+use Rattle.std.proofs.Common.{◌≡◌, ◌<◌, ℕ, ◌+◌, false, List, ◌∷◌, length, map, get_or, drop, ap, subst, ◌∙◌, inr}
 use Rattle.std.specs.Prelude.{IsTrue}
-use Rattle.std.specs.List.{All}
-use Rattle.std.proofs.lemmas.List.{drop_more}
 use Rattle.script_lines.specs.declared.line.NumberedLine as held
 use Rattle.script_lines.specs.Lines.{NumberedLine}
 use Rattle.script_lines.specs.Views as script
+use Rattle.script_lines.proofs.Shared.{lines_from}
 use Rattle.tpl_syntax.specs.declared.judge.ReadLine.{ReadLine}
 use Rattle.tpl_syntax.specs.declared.line.Line.{Line}
 use Rattle.tpl_syntax.specs.declared.reader.Seen.{Seen}
@@ -29,11 +28,6 @@ found_at p bytes l h = record { said = h.0; writes = h.1; stands = h.2; is = h.3
 
 after_line : (p q : Place) (bytes : List ℕ) (l : Line Seen) (a : FoundAt p bytes l) → q ≡ moved p l → q ≡ moved p (said_line a.said)
 after_line p q bytes l a e = e ∙ ap (λ (m : Line Seen). moved p m) a.is ∙ same_moved p _ (said_line a.said)
-
--- the lines from a place on are the one there and those behind it
-lines_from : (ls : List held.NumberedLine) (i : ℕ) (d : held.NumberedLine) → i < length ls
-    → map script.line_of (drop i ls) ≡ script.line_of (get_or ls i d) ∷ map script.line_of (drop (i + 1) ls)
-lines_from ls i d h = ap (map script.line_of) (drop_more ls i d h)
 
 -- a fault of a later line is one of the lines from here on
 pub faulty_later : (p q : Place) (ls : List held.NumberedLine) (i : ℕ) (d : held.NumberedLine) (l : Line Seen) (k : ℕ) → i < length ls
@@ -62,12 +56,3 @@ pub left_open : (ls : List NumberedLine) (rs : List ReadLine) (to : Place) → A
 left_open ls rs to a e =
     let s = says_read top ls rs to a in
     record { xs = s.xs; say = s.say; begun = ap is_closed s.end ∙ e }
-
--- lines that are held and have at most so many bytes
-pub short_held : (n : ℕ) (ls : List held.NumberedLine) (all : List NumberedLine) → map script.line_of ls ≡ all → All (λ l. length l.1 ≤ n) all → All (λ l. length l.text.now ≤ n) ls
-short_held n ls all e h = held_short ls (subst (λ (ms : List NumberedLine). All (λ l. length l.1 ≤ n) ms) (sym e) h)
-  where
-    held_short : (ls : List held.NumberedLine) → All (λ l. length l.1 ≤ n) (map script.line_of ls) → All (λ l. length l.text.now ≤ n) ls
-    held_short [] h k d within = absurd (omega arith)
-    held_short (l ∷ ls) h zero d within = h 0 (script.line_of d) (omega arith)
-    held_short (l ∷ ls) h (suc k) d within = held_short ls (λ j e w. h (suc j) e (omega arith)) k d (omega arith)

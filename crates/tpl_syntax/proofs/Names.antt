@@ -1,14 +1,12 @@
 -- The names of a template, and the slots of its formulas.
-use Rattle.std.proofs.Common.{◌≡◌, ◌<◌, ◌≤◌, ◌+◌, ◌*◌, ◌^◌, ℕ, suc, Bool, true, false, cond, List, [], ◌∷◌, length, map, Option, Some, None, refl, ap, ap₂, ◌∙◌, arith}
-use Rattle.std.specs.Prelude.{nat_lt, not, ◌&&◌}
+use Rattle.std.proofs.Common.{◌≡◌, ◌<◌, ◌≤◌, ◌+◌, ◌*◌, ◌^◌, ℕ, suc, false, List, [], ◌∷◌, length, map, None, refl, ap, ap₂, ◌∙◌, arith}
+use Rattle.std.specs.Prelude.{nat_lt}
 use Rattle.std.proofs.lemmas.Bool.Decides.{nat_tests}
 use Rattle.sig_formula.specs.Trees.{Tree}
-use Rattle.formula_text.specs.declared.wired.Allow.{Allow}
-use Rattle.formula_text.specs.declared.wired.FormulaFault.{FormulaFault}
-use Rattle.formula_text.specs.declared.wired.FormulaFault.TheVariants as fault
 use Rattle.formula_text.specs.Grammar.{Draft}
-use Rattle.formula_text.specs.Refusals.{has_long_text, has_untrack, is_above, names, needs_row, slotted}
-use Rattle.formula_text.specs.Slots.{refusal, wired}
+use Rattle.formula_text.specs.Refusals.{names, slotted}
+use Rattle.formula_text.specs.Slots.{wired}
+use Rattle.formula_text.proofs.Shared.{few_names, not_chosen}
 use Rattle.line_forms.specs.Slots.{among_names}
 use Rattle.line_forms.proofs.Shared.{among_is, each_names, few_each}
 use Rattle.tpl_syntax.specs.declared.line.Line.{Line}
@@ -51,27 +49,6 @@ plan_is ls =
     ap whole same ∙ ap (λ (ms : List (Line Tree)). record { lines = ms; names = names_of ls }) (all_among (names_of ls) ls)
 
 -- ---- the names are few
-
-not_chosen : {A : Type 0} (b : Bool) (x : A) (o : Option A) → cond b (Some x) o ≡ None → (b ≡ false) × (o ≡ None)
-not_chosen true x o e = absurd cc
-not_chosen false x o e = (refl, e)
-
--- the last of the tests of a formula that isn't refused
-last_test : (a b d e f : Bool) (v w x y z : FormulaFault)
-    → cond a (Some v) (cond b (Some w) (cond d (Some x) (cond e (Some y) (cond f (Some z) None)))) ≡ None → f ≡ false
-last_test true b d e f v w x y z h = absurd cc
-last_test false true d e f v w x y z h = absurd cc
-last_test false false true e f v w x y z h = absurd cc
-last_test false false false true f v w x y z h = absurd cc
-last_test false false false false true v w x y z h = absurd cc
-last_test false false false false false v w x y z h = refl
-
-few_names : (a : Allow) (x : Draft) → refusal a x ≡ None → length (names x) ≤ 64
-few_names a x e =
-    let last : nat_lt 64 (length (names x)) ≡ false =
-    last_test (has_untrack x && not a.untrack) (needs_row x && not a.row) (is_above 64 x) (has_long_text x) (nat_lt 64 (length (names x)))
-    fault.UntrackHere fault.ItHere fault.Nest fault.TextLong fault.Sources e in
-    grind (arith, nat_tests)
 
 few_line : (p : Place) (ns : List (List ℕ)) (l : Line Draft) → fault_of p l ≡ None → length (with_wired ns (formula_of (mapped wired l))) ≤ length ns + 64
 few_line p ns (line.Plain m) e = omega arith

@@ -20,7 +20,7 @@ use Rattle.tpl_syntax.specs.Lines.{Plan, formula_of, mapped}
 use Rattle.tpl_syntax.specs.Places.{Place, is_closed, moved, places, top}
 use Rattle.tpl_syntax.specs.Templates.{Answer, IsRead, faulty, unended, says, Say, Sayings, answer_of, names_of, plan_of, reached, unless_refused, with_formula, with_lines}
 use Rattle.tpl_syntax.specs.Printer.{bytes_of, ended_line, lines_of_plan, plan_text, said_by, said_in, said_of}
-use Rattle.tpl_syntax.proofs.Judgements.{neither}
+use Rattle.formula_text.proofs.Shared.{neither}
 
 -- ---- a line says again what it said
 

@@ -16,10 +16,12 @@ use Rattle.tpl_syntax.specs.Lines.{Plan}
 abbrev pub Stored : Type 0
 Stored = Mark ⊎ (Purpose × Tree)
 
+-- a line as it is stored
 abbrev stored : Line Tree → Stored
 stored (line.Plain m) = inl m
 stored (line.Over p f) = inr (p, f)
 
+-- the line that is stored so
 abbrev line_from : Stored → Line Tree
 line_from (inl m) = line.Plain m
 line_from (inr a) = line.Over a.0 a.1

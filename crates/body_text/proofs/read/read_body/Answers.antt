@@ -1,6 +1,6 @@
 use Rattle.sig_base.specs.declared.limits.TheConstants.{MOST_LINE}
 use Rattle.script_lines.specs.Lines.{kept_lines}
-use Rattle.body_text.proofs.LineByLine.{short_held}
+use Rattle.script_lines.proofs.Shared.{short_held}
 use Rattle.body_text.proofs.read.read_body.Goals as goal
 
 pub read_numbered-requires : goal.read_numbered-requires

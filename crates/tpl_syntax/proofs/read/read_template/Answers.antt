@@ -1,6 +1,6 @@
 use Rattle.sig_base.specs.declared.limits.TheConstants.{MOST_LINE}
 use Rattle.script_lines.specs.Lines.{kept_lines}
-use Rattle.tpl_syntax.proofs.LineByLine.{short_held}
+use Rattle.script_lines.proofs.Shared.{short_held}
 use Rattle.tpl_syntax.proofs.read.read_template.Goals as goal
 
 pub read_numbered-requires : goal.read_numbered-requires
