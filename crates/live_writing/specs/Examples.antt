@@ -19,45 +19,55 @@ use Rattle.live_writing.specs.Printer.{command_text}
 
 -- ---- `on counter 5 @click`
 
+-- the first line of a handler of clicks at line 5 of the template `counter`
 abbrev pub on_click : Said
 on_click = (on, (codes "counter", (5, (codes "click", tt))))
 
+-- it is read of its words
 pub on_click_read : said_of commands (word (codes "on") ∷ word (codes "counter") ∷ number (pos 5) ∷ tag (codes "click") ∷ []) ≡ Some on_click
 unfolding is_name is_reserved
 on_click_read = refl
 
--- it begins a block, and is no command by itself
+-- it begins a block
 pub on_click_begins : is_head on ≡ true
 on_click_begins = refl
 
+-- it gives the template, the line and the event
 pub on_click_said : said_line on_click ≡ line.On (codes "counter") 5 (codes "click")
 on_click_said = refl
 
+-- it is no command by itself
 pub on_click_open : is_alone on_click ≡ false
 on_click_open = refl
 
 -- the lines of its body stand between it and the `end`
-pub on_click_written : (b : Bodies) → command_text (command.On (codes "counter") 5 (codes "click") b) ≡ codes "on counter 5 @click\n" ++ (body_text b ++ codes "end\n")
+pub on_click_written : (b : Bodies) → command_text (command.On (codes "counter") 5 (codes "click") b)
+    ≡ codes "on counter 5 @click\n" ++ (body_text b ++ codes "end\n")
 unfolding digits
 on_click_written b = refl
 
 -- nothing stands behind the event
-pub nothing_behind : said_of commands (word (codes "on") ∷ word (codes "counter") ∷ number (pos 5) ∷ tag (codes "click") ∷ word (codes "in") ∷ word (codes "o") ∷ []) ≡ None
+pub nothing_behind : said_of commands
+    (word (codes "on") ∷ word (codes "counter") ∷ number (pos 5) ∷ tag (codes "click") ∷ word (codes "in") ∷ word (codes "o") ∷ []) ≡ None
 unfolding is_name is_reserved
 nothing_behind = refl
 
 -- ---- `fire main 12 @click`
 
+-- a click at node 12 of the page `main`
 abbrev pub click : Said
 click = (fire, (codes "main", (12, (codes "click", tt))))
 
+-- it is read of its words
 pub click_read : said_of commands (word (codes "fire") ∷ word (codes "main") ∷ number (pos 12) ∷ tag (codes "click") ∷ []) ≡ Some click
 unfolding is_name is_reserved
 click_read = refl
 
+-- it is a command that fires the event
 pub click_is : (n : ℕ) → item_of n click ≡ item.Do (command.Fire (codes "main") 12 (codes "click"))
 click_is n = refl
 
+-- it is written as it is read
 pub click_written : command_text (command.Fire (codes "main") 12 (codes "click")) ≡ codes "fire main 12 @click\n"
 unfolding digits
 click_written = refl
@@ -69,24 +79,30 @@ event_marked = refl
 
 -- ---- `record`
 
+-- it is read of its word
 pub record_read : said_of commands (word (codes "record") ∷ []) ≡ Some (bare bares.Record, tt)
 record_read = refl
 
+-- it is a command of one word
 pub record_is : (n : ℕ) → item_of n (bare bares.Record, tt) ≡ item.Do (command.Bare bares.Record)
 record_is n = refl
 
+-- it is written as it is read
 pub record_written : command_text (command.Bare bares.Record) ≡ codes "record\n"
 record_written = refl
 
 -- ---- `why total`
 
+-- it is read of its words
 pub why_read : said_of commands (word (codes "why") ∷ word (codes "total") ∷ []) ≡ Some (verb verbs.Why, (codes "total", tt))
 unfolding is_name is_reserved
 why_read = refl
 
+-- it is a command of a verb and a name
 pub why_is : (n : ℕ) → item_of n (verb verbs.Why, (codes "total", tt)) ≡ item.Do (command.Named verbs.Why (codes "total"))
 why_is n = refl
 
+-- it is written as it is read
 pub why_written : command_text (command.Named verbs.Why (codes "total")) ≡ codes "why total\n"
 why_written = refl
 
