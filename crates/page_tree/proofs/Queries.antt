@@ -48,6 +48,12 @@ place_root n t e = (let b : (n == 0) ≡ true = eq-eqb n 0 e in rw b (nowhere (o
 pub place_off : (n : ℕ) (t : Forest Kind) → on n t ≡ false → None ≡ place_at n t
 place_off n t e = rw e refl
 
+pub read_parent : (n p : ℕ) (t : Forest Kind) → on n t ≡ true → (n == 0) ≡ false → p ≡ parent n t → Some p ≡ (if below_root n t then Some (parent n t) else None)
+read_parent n p t e z q = rw (e, z, ← q) refl
+
+pub parent_off : (n : ℕ) (t : Forest Kind) → on n t ≡ false → None ≡ (if below_root n t then Some (parent n t) else None)
+parent_off n t e = rw e refl
+
 -- the parent of a node is a node
 pub parent_on : (n : ℕ) (t : Forest Kind) → IsTree t → on n t ≡ true → (0 == n) ≡ false → (has n (kids (parent n t) t) ≡ true) × (on (parent n t) t ≡ true)
 parent_on n t w e z = has_parent n t w.once e (off_top n t w z)

@@ -22,6 +22,11 @@ label_of label.Root = Root
 label_of (label.Text t) = Text t
 label_of (label.Element name attributes) = Element name attributes.items
 
+-- a node's label, and the root's where there is no such node
+abbrev pub label_or_root : Option Label → Kind
+label_or_root None = Root
+label_or_root (Some l) = label_of l
+
 -- a row of what a node of the program has
 abbrev pub row_with : Label → ℕ → List ℕ → Row
 row_with x above children = record { label = label_of x; parent = above; children = children }
@@ -65,7 +70,8 @@ tree_in rows = build 33 rows (0 ∷ [])
 -- each node of these siblings has its row
 abbrev pub HaveRows : (ℕ → Option Row) → ℕ → Forest Kind → Type 0
 HaveRows rows above none = Unit {0}
-HaveRows rows above (node n x k r) = (rows n ≡ Some (record { label = x; parent = above; children = siblings k })) × HaveRows rows n k × HaveRows rows above r
+HaveRows rows above (node n x k r) =
+    (rows n ≡ Some (record { label = x; parent = above; children = siblings k })) × HaveRows rows n k × HaveRows rows above r
 
 -- there is a row
 abbrev pub is_row : Option Row → Bool

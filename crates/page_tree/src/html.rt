@@ -5,7 +5,7 @@ ghost use Rattle.html_out.specs.Html.{attribute, is_raw, is_void};
 ghost use Rattle.page_model.specs.Html.{characters, closing, element, html_in, opening};
 ghost use Rattle.page_tree.specs.Rows.{build, look};
 
-use crate::table::{Label, Node};
+use crate::table::{Label, Node, find_near};
 use html_out::{is_raw, is_void, put_attr, put_text};
 use indexmap::IndexMap;
 use sig_base::{NoMemory, Text};
@@ -29,10 +29,11 @@ fn put_attributes(out: &mut Vec<u8>, attributes: &[(Text, Text)]) -> Result<(), 
 fn put_opening(out: &mut Vec<u8>, name: &str, attributes: &[(Text, Text)]) -> Result<(), NoMemory>
     ensures { OnOk result (out.new.items ≡ out.old.items ++ opening name.now attributes.now) }
 {
-    put(out, b"<")?;
+    out.push(b'<')?;
     put(out, name.as_bytes())?;
     put_attributes(out, attributes)?;
-    put(out, b">")
+    out.push(b'>')?;
+    Ok(())
 }
 
 fn put_closing(out: &mut Vec<u8>, name: &str) -> Result<(), NoMemory>
@@ -40,7 +41,8 @@ fn put_closing(out: &mut Vec<u8>, name: &str) -> Result<(), NoMemory>
 {
     put(out, b"</")?;
     put(out, name.as_bytes())?;
-    put(out, b">")
+    out.push(b'>')?;
+    Ok(())
 }
 
 // A text, as it is or escaped.
@@ -54,7 +56,7 @@ fn put_characters(out: &mut Vec<u8>, text: &str, raw: bool) -> Result<(), NoMemo
     }
 }
 
-// An element around what stands below it.
+// An element around what stands below it, and the place where the next node is looked for first.
 #[cycle(html)]
 fn write_element(
     out: &mut Vec<u8>,
@@ -63,20 +65,22 @@ fn write_element(
     attributes: &[(Text, Text)],
     children: &[u64],
     levels: u64,
-) -> Result<(), NoMemory>
+    near: usize,
+) -> Result<usize, NoMemory>
     ensures { OnOk result (out.new.items ≡
         out.old.items ++ element name.now attributes.now (html_in (is_raw name.now) (build levels (look nodes.now) children.now))) }
 {
     put_opening(out, name, attributes)?;
     if is_void(name) {
-        return Ok(());
+        return Ok(near);
     }
-    write_nodes(out, nodes, children, is_raw(name), levels)?;
+    let next = write_nodes(out, nodes, children, is_raw(name), levels, near)?;
     put_closing(out, name)?;
-    Ok(())
+    Ok(next)
 }
 
-// One node and what stands below it.
+// One node and what stands below it. It mostly stands behind the one before it in the table too, so that no hash is needed; what is told is the place
+// where the next node is looked for first.
 #[cycle(html)]
 #[tactic(auto, using(crate::proofs::Bytes::shows_cons, crate::proofs::Bytes::shows_one, crate::proofs::Bytes::shows_none))]
 fn write_node(
@@ -85,25 +89,32 @@ fn write_node(
     id: u64,
     raw: bool,
     levels: u64,
-) -> Result<(), NoMemory>
+    near: usize,
+) -> Result<usize, NoMemory>
     requires { 0 < levels }
     ensures { OnOk result (out.new.items ≡ out.old.items ++ html_in raw (build levels (look nodes.now) (id ∷ []))) }
 {
-    let Some(node) = nodes.get(&id) else {
-        return Ok(());
+    let Some((place, node)) = find_near(nodes, near, id) else {
+        return Ok(near);
     };
+    let near = place.wrapping_add(1);
     match &node.label {
-        Label::Root => Ok(()),
-        Label::Text(text) => put_characters(out, text.as_str(), raw),
+        Label::Root => Ok(near),
+        Label::Text(text) => {
+            put_characters(out, text.as_str(), raw)?;
+            Ok(near)
+        }
         Label::Element(name, attributes) => {
             let children = &node.children;
-            write_element(out, nodes, name.as_str(), attributes, children, levels - 1)?;
-            Ok(())
+            let below = levels - 1;
+            let next = write_element(out, nodes, name.as_str(), attributes, children, below, near)?;
+            Ok(next)
         }
     }
 }
 
-/// Appends the bytes of these nodes and of what stands below them, on so many levels; their texts are escaped or as they are.
+/// Appends the bytes of these nodes and of what stands below them, on so many levels; their texts are escaped or as they are. The first is looked for
+/// near a place of the table, and the place where a next one is looked for is told.
 #[cycle(html)]
 #[tactic(auto, using(crate::proofs::Bytes::shows_cons, crate::proofs::Bytes::shows_one, crate::proofs::Bytes::shows_none))]
 pub fn write_nodes(
@@ -112,14 +123,16 @@ pub fn write_nodes(
     ids: &[u64],
     raw: bool,
     levels: u64,
-) -> Result<(), NoMemory>
+    near: usize,
+) -> Result<usize, NoMemory>
     ensures { OnOk result (out.new.items ≡ out.old.items ++ html_in raw (build levels (look nodes.now) ids.now)) }
 {
     if levels == 0 {
-        return Ok(());
+        return Ok(near);
     }
+    let mut next = near;
     for id in ids {
-        write_node(out, nodes, *id, raw, levels)?;
+        next = write_node(out, nodes, *id, raw, levels, next)?;
     }
-    Ok(())
+    Ok(next)
 }

@@ -1,6 +1,6 @@
 // The nodes of a tree by number, and edits of one of them.
-ghost use Rattle.std.specs.Prelude.{◌≡◌, ◌≤◌, ◌<◌, ℕ, Some, true, length, vec_len, vec_capacity, ◌+◌, MatchResult, option_copied};
-ghost use Rattle.indexmap.specs.IndexMap.{spare};
+ghost use Rattle.std.specs.Prelude.{◌≡◌, ◌≤◌, ◌<◌, ℕ, Some, true, length, vec_len, vec_capacity, ◌+◌, MatchResult, nat_eq, option_copied, option_map};
+ghost use Rattle.indexmap.specs.IndexMap.{get, spare};
 ghost use Rattle.page_model.specs.Edits.{listed, put_at, taken};
 ghost use Rattle.page_model.specs.Pages as pages;
 ghost use Rattle.page_model.specs.Replay.{others, put_in};
@@ -121,6 +121,23 @@ fn put_attribute(attributes: &mut Vec<(Text, Text)>, place: usize, name: Text, v
         Ok(()) => (),
         Err(_) => unreachable!(),
     }
+}
+
+// ---- look-ups
+
+/// A node by its number, and its place in the table; it is looked for at a place first.
+pub fn find_near(nodes: &IndexMap<u64, Node>, near: usize, id: u64) -> Option<(usize, &Node)>
+    ensures { option_map (λ p. p.1.now) result ≡ get nat_eq nodes.now id }
+{
+    if let Some((number, node)) = nodes.get_index(near) {
+        if *number == id {
+            return Some((near, node));
+        }
+    }
+    let Some((place, _, node)) = nodes.get_full(&id) else {
+        return None;
+    };
+    Some((place, node))
 }
 
 // ---- edits of one node

@@ -1,15 +1,15 @@
 // A numbered tree, and what stands in it.
-ghost use Rattle.std.specs.Prelude.{◌≡◌, ◌++◌, [], ℕ, IfOk, MatchResult, OnOk, None, true, ◌≤◌, IfSome, option_copied};
+ghost use Rattle.std.specs.Prelude.{◌≡◌, ◌++◌, [], ℕ, IfOk, MatchResult, OnOk, None, Some, true, ◌≤◌, IfSome, if◌then◌else◌, option_copied};
 ghost use Rattle.std.specs.List.{slice_get};
 ghost use Rattle.page_model.specs.Edits.{siblings};
-ghost use Rattle.page_model.specs.Forest.{keys, kids, label_in, node, none};
+ghost use Rattle.page_model.specs.Forest.{keys, kids, label_in, node, none, parent};
 ghost use Rattle.page_model.specs.Html.{html_of};
 ghost use Rattle.page_model.specs.Labels.{Root};
 ghost use Rattle.page_model.specs.Replay as replay;
 ghost use Rattle.page_model.specs.Trees.{Brings, IsTree};
 ghost use Rattle.page_tree.specs.Queries as reading;
 ghost use Rattle.page_tree.specs.Queries.{IsDone};
-ghost use Rattle.page_tree.specs.Rows.{label_of, look, written};
+ghost use Rattle.page_tree.specs.Rows.{label_of, label_or_root, look, written};
 ghost use Rattle.page_tree.specs.Subs.{insertion, sub_tree};
 
 use crate::ancestors::climb;
@@ -154,7 +154,7 @@ impl Tree {
         let Some(root) = self.nodes.get(&0) else {
             return Ok(());
         };
-        write_nodes(out, &self.nodes, &root.children, false, 32)?;
+        let _ = write_nodes(out, &self.nodes, &root.children, false, 32, 1)?;
         Ok(())
     }
 
@@ -222,6 +222,19 @@ impl Tree {
         Some(climb(&self.nodes, id, 33))
     }
 
+    /// The parent of a node; None exactly for the root and where there is no such node.
+    pub fn parent_of(&self, id: u64) -> Option<u64>
+        ensures { result ≡ (if replay.below_root id self.now then Some (parent id self.now) else None) }
+    {
+        if id == 0 {
+            return None;
+        }
+        let Some(node) = self.nodes.get(&id) else {
+            return None;
+        };
+        Some(node.parent)
+    }
+
     /// The parent of a node and its place there; None exactly for the root and where there is no such node.
     pub fn place_of(&self, id: u64) -> Option<(u64, usize)>
         ensures { result ≡ reading.place_at id self.now }
@@ -238,44 +251,41 @@ impl Tree {
         Some((node.parent, place_in(&above.children, id)))
     }
 
-    /// How many attributes an element has; None exactly where there is no such element.
-    pub fn attr_count(&self, id: u64) -> Option<usize>
-        ensures { result ≡ reading.attribute_count (label_in Root id self.now) }
+    fn label_at(&self, id: u64) -> Option<&Label>
+        ensures { label_or_root (option_copied result) ≡ label_in Root id self.now }
     {
         let Some(node) = self.nodes.get(&id) else {
             return None;
         };
-        attribute_count(&node.label)
+        Some(&node.label)
+    }
+
+    /// How many attributes an element has; None exactly where there is no such element.
+    pub fn attr_count(&self, id: u64) -> Option<usize>
+        ensures { result ≡ reading.attribute_count (label_in Root id self.now) }
+    {
+        attribute_count(self.label_at(id)?)
     }
 
     /// The place of an element's attribute of a name; None exactly where there is no such element or attribute.
     pub fn attr_place(&self, id: u64, name: &Text) -> Option<usize>
         ensures { result ≡ reading.attribute_place name.now (label_in Root id self.now) }
     {
-        let Some(node) = self.nodes.get(&id) else {
-            return None;
-        };
-        attribute_place(&node.label, name)
+        attribute_place(self.label_at(id)?, name)
     }
 
     /// What a text says; None exactly where there is no such text.
     pub fn text_at(&self, id: u64) -> Option<&Text>
         ensures { option_copied result ≡ reading.text_in (label_in Root id self.now) }
     {
-        let Some(node) = self.nodes.get(&id) else {
-            return None;
-        };
-        text_in(&node.label)
+        text_in(self.label_at(id)?)
     }
 
     /// The value of an element's attribute of a name; None exactly where there is no such element or attribute.
     pub fn attr_value<'a>(&'a self, id: u64, name: &Text) -> Option<&'a Text>
         ensures { option_copied result ≡ reading.attribute_value name.now (label_in Root id self.now) }
     {
-        let Some(node) = self.nodes.get(&id) else {
-            return None;
-        };
-        attribute_value(&node.label, name)
+        attribute_value(self.label_at(id)?, name)
     }
 
     /// Takes out a node with all below it.

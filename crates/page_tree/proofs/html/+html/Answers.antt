@@ -13,7 +13,7 @@ write_nodes-loop-id-preserved t c =
     let shows : List ℕ → List ℕ = λ ns. html_in c.args.raw (build c.args.levels (look c.args.nodes.now) ns) in
     let e : drop i ids ≡ get_or ids i 0 ∷ drop (i + 1) ids = drop_more ids i 0 c.loop-id-test.true in
     let f : shows (drop i ids) ≡ shows (get_or ids i 0 ∷ []) ++ shows (drop (i + 1) ids) = ap shows e ∙ shows_cons c.args.raw c.args.levels (look c.args.nodes.now) (get_or ids i 0) (drop (i + 1) ids) in
-    step_out c.loop-id.out.items c.write_node.new.out.items (shows (get_or ids i 0 ∷ [])) (shows (drop (i + 1) ids)) (shows (drop i ids)) (c.args.out.now.items ++ shows ids) c.in_ok-write_node.ensures f c.loop-id.invariant
+    step_out c.loop-id.out.items c.write_node.new.out.items (shows (get_or ids i 0 ∷ [])) (shows (drop (i + 1) ids)) (shows (drop i ids)) (c.args.out.now.items ++ shows ids) c.in_ok-next.ensures f c.loop-id.invariant
 
 pub write_nodes-returns : goal.write_nodes-returns
 write_nodes-returns t c =

@@ -1,0 +1,13 @@
+use Rattle.std.proofs.Common.{sym, ap}
+use Rattle.page_tree.specs.Rows.{look, row_in, row_of}
+use Rattle.page_tree.proofs.Edits.{kept_some, kept_none}
+use Rattle.page_tree.proofs.Queries.{parent_off, read_parent, zero_first, zero_last}
+use Rattle.page_tree.proofs.tree.Tree.parent_of.Goals as goal
+
+pub returns-in_default : goal.returns-in_default
+returns-in_default c = parent_off c.args.id c.args.self.now (kept_none (look c.self.inside.nodes) c.args.self.now c.args.id c.self.view_is c.self.invariant (ap row_in (sym c.in_default.ensures.value)))
+
+pub returns : goal.returns
+returns c =
+    let k = kept_some (look c.self.inside.nodes) c.args.self.now c.args.id (row_of c.in-Some.node.now) c.self.view_is c.self.invariant (ap row_in (sym c.in-Some.ensures.value)) in
+    read_parent c.args.id c.in-Some.node.now.parent c.args.self.now k.0 (zero_last c.args.id c.if-id-eq0.false) (k.3 (zero_first c.args.id c.if-id-eq0.false))
