@@ -21,6 +21,7 @@ use Rattle.effect_tables.specs.Scripts.{IsFitted}
 use Rattle.effect_tables.specs.Consistency.{AreAlive, AreFresh, AreNumbered, AreOrdered, TablesAgree, LeavesOut}
 use Rattle.effect_tables.specs.Bodies.{body_of}
 use Rattle.effect_tables.specs.Locations.{IsInside}
+use Rattle.effect_tables.specs.Makings.{Makes}
 use Rattle.effect_tables.specs.Things.{noted}
 use Rattle.effect_tables.specs.Owners.{living, number_in}
 use Rattle.effect_tables.specs.Placed.{effect_of, placed, tree_of}
@@ -47,7 +48,7 @@ pub record HasOwner (t u : Tables) (outer : Option ℕ) (n k : ℕ) : Type 0 whe
   pub effects_made : u.effects_made ≡ t.effects_made
   pub pages_made : u.pages_made ≡ t.pages_made
 
-pub owner_does : (t u : Tables) (inside outer : Option ℕ) (n k : ℕ) → HasOwner t u outer n k → IsInside t.owners.items inside outer → TablesAgree t →
+owner_does : (t u : Tables) (inside outer : Option ℕ) (n k : ℕ) → HasOwner t u outer n k → IsInside t.owners.items inside outer → TablesAgree t →
     (w : World) → placed u w ≡ with_new_owner inside (placed t w)
 owner_does t u inside outer n k m i h w =
     let tree = owner_tree t.owners.items t.effects.items (noted t.things) (noted u.things) t.store u.store inside outer n k m.made h.numbered h.alive i m.number m.things in
@@ -59,7 +60,7 @@ owner_does t u inside outer n k m i h w =
       made = record (w.made) { owners = (ap length m.owners ∙ one_more t.owners.items (Some n)) j; effects = m.effects_made j; pages = m.pages_made j };
     }
 
-pub owner_holds : (t u : Tables) (inside outer : Option ℕ) (n k : ℕ) → HasOwner t u outer n k → IsInside t.owners.items inside outer → TablesAgree t → TablesAgree u
+owner_holds : (t u : Tables) (inside outer : Option ℕ) (n k : ℕ) → HasOwner t u outer n k → IsInside t.owners.items inside outer → TablesAgree t → TablesAgree u
 owner_holds t u inside outer n k m i h = record {
   numbered = subst (λ es. AreNumbered es (noted u.things) u.store) (sym m.owners) (owner_numbered t.owners.items t.effects.items (noted t.things) (noted u.things) t.store u.store inside outer n k m.made h.numbered h.alive i m.number m.things);
   alive = subst (λ x. x) (λ j. AreAlive (sym m.owners j) (sym m.effects j).items u.store) (owner_alive t.owners.items t.effects.items (noted t.things) (noted u.things) t.store u.store inside outer n k m.made h.numbered h.alive i m.number m.things);
@@ -68,8 +69,12 @@ owner_holds t u inside outer n k m i h = record {
   fitting = subst (λ x. x) (λ j. AllByRecursion IsFitted (sym m.effects j).items) h.fitting;
 }
 
-pub owner_leaves : (t u : Tables) (outer : Option ℕ) (n : ℕ) → MakesOwner t.store u.store outer n → LeavesOut None t.store u.store
+owner_leaves : (t u : Tables) (outer : Option ℕ) (n : ℕ) → MakesOwner t.store u.store outer n → LeavesOut None t.store u.store
 owner_leaves t u outer n m = record { still = λ k off h. ap (has_thing (the_signal k)) m.tree ∙ has_made (the_signal k) (the_owner n) t.store outer (owned_of t.store) refl h }
+
+pub owner_makes : (t u : Tables) (inside outer : Option ℕ) (n k : ℕ) → HasOwner t u outer n k → IsInside t.owners.items inside outer → TablesAgree t →
+    Makes (λ w. w) None t u (with_new_owner inside)
+owner_makes t u inside outer n k m i h = record { does = owner_does t u inside outer n k m i h; holds = owner_holds t u inside outer n k m i h; signals = owner_leaves t u outer n m.made }
 
 -- ---- an effect
 
@@ -85,7 +90,7 @@ pub record HasEffect (t u : Tables) (outer : Option ℕ) (x : Effect) : Type 0 w
   pub effects_made : u.effects_made ≡ t.effects_made + 1
   pub pages_made : u.pages_made ≡ t.pages_made
 
-pub effect_holds : (t u : Tables) (outer : Option ℕ) (x : Effect) → HasEffect t u outer x → TablesAgree t → TablesAgree u
+effect_holds : (t u : Tables) (outer : Option ℕ) (x : Effect) → HasEffect t u outer x → TablesAgree t → TablesAgree u
 effect_holds t u outer x m h =
     let next : x.id + 1 ≡ u.effects_made = ap (λ k. k + 1) m.number ∙ sym m.effects_made in
     record {
@@ -103,7 +108,7 @@ effects_more : (t u : Tables) (outer : Option ℕ) (x : Effect) (b : Body) → H
     map effect_of u.effects.items ≡ map effect_of t.effects.items ++ record { number = t.effects_made; body = b; kept = None } ∷ []
 effects_more t u outer x b m is = ap (map effect_of) m.effects ∙ map-append effect_of t.effects.items (x ∷ []) ∙ ap (λ y. map effect_of t.effects.items ++ y ∷ []) is
 
-pub effect_does : (t u : Tables) (inside outer : Option ℕ) (x : Effect) (s : Script) → HasEffect t u outer x → effect_of x ≡ record { number = t.effects_made; body = body_of t.effects_made s []; kept = None } →
+effect_does : (t u : Tables) (inside outer : Option ℕ) (x : Effect) (s : Script) → HasEffect t u outer x → effect_of x ≡ record { number = t.effects_made; body = body_of t.effects_made s []; kept = None } →
     IsInside t.owners.items inside outer → TablesAgree t → (w : World) → placed u w ≡ with_new_effect (body_of t.effects_made s []) inside (placed t w)
 effect_does t u inside outer x s m is i h w =
     λ j. record w {
@@ -117,7 +122,7 @@ effect_does t u inside outer x s m is i h w =
     }
 
 -- a child of an effect
-pub child_does : (t u : Tables) (e r : ℕ) (x : Effect) (b : Body) → HasEffect t u (Some r) x → effect_of x ≡ record { number = t.effects_made; body = b; kept = None } →
+child_does : (t u : Tables) (e r : ℕ) (x : Effect) (b : Body) → HasEffect t u (Some r) x → effect_of x ≡ record { number = t.effects_made; body = b; kept = None } →
     thing_at t.store r ≡ the_effect e → TablesAgree t → (w : World) → placed u w ≡ with_child e b (placed t w)
 child_does t u e r x b m is stands h w =
     λ j. record w {
@@ -130,8 +135,16 @@ child_does t u e r x b m is stands h w =
       made = record (w.made) { owners = length (m.owners j); effects = m.effects_made j; pages = m.pages_made j };
     }
 
-pub effect_leaves : (t u : Tables) (outer : Option ℕ) (e n : ℕ) → MakesEffect t.store u.store outer e n → LeavesOut None t.store u.store
+effect_leaves : (t u : Tables) (outer : Option ℕ) (e n : ℕ) → MakesEffect t.store u.store outer e n → LeavesOut None t.store u.store
 effect_leaves t u outer e n m = record { still = λ k off h. ap (has_thing (the_signal k)) m.tree ∙ has_made (the_signal k) (the_effect e) t.store outer (owned_of t.store) refl h }
+
+pub effect_makes : (t u : Tables) (inside outer : Option ℕ) (x : Effect) (s : Script) → HasEffect t u outer x → effect_of x ≡ record { number = t.effects_made; body = body_of t.effects_made s []; kept = None } →
+    IsInside t.owners.items inside outer → TablesAgree t → Makes (λ w. w) None t u (with_new_effect (body_of t.effects_made s []) inside)
+effect_makes t u inside outer x s m is i h = record { does = effect_does t u inside outer x s m is i h; holds = effect_holds t u outer x m h; signals = effect_leaves t u outer x.id x.row m.made }
+
+pub child_makes : (t u : Tables) (e r : ℕ) (x : Effect) (b : Body) → HasEffect t u (Some r) x → effect_of x ≡ record { number = t.effects_made; body = b; kept = None } →
+    thing_at t.store r ≡ the_effect e → TablesAgree t → Makes (λ w. w) None t u (with_child e b)
+child_makes t u e r x b m is stands h = record { does = child_does t u e r x b m is stands h; holds = effect_holds t u (Some r) x m h; signals = effect_leaves t u (Some r) x.id x.row m.made }
 
 -- ---- a page
 
@@ -146,7 +159,7 @@ pub record HasPage (t u : Tables) (outer : Option ℕ) (n : ℕ) : Type 0 where
   pub effects_made : u.effects_made ≡ t.effects_made
   pub pages_made : u.pages_made ≡ t.pages_made + 1
 
-pub page_holds : (t u : Tables) (outer : Option ℕ) (n : ℕ) → HasPage t u outer n → TablesAgree t → TablesAgree u
+page_holds : (t u : Tables) (outer : Option ℕ) (n : ℕ) → HasPage t u outer n → TablesAgree t → TablesAgree u
 page_holds t u outer n m h = record {
   numbered = subst (λ x. x) (λ j. AreNumbered (sym m.owners j) (noted (sym m.things j)) u.store)
       (adopted_numbered t.store u.store outer (the_page n) m.adopts t.owners.items (noted t.things) (λ k. refl) h.numbered);
@@ -161,7 +174,7 @@ page_holds t u outer n m h = record {
     beyond : (k : ℕ) → t.pages_made + 1 ≤ k → (t.pages_made ≤ k) × ((k == n) ≡ false)
     beyond k l = let e : n ≡ t.pages_made = m.number in (omega (arith, l), grind (arith, nat_tests, l, e))
 
-pub page_does : (t u : Tables) (inside outer : Option ℕ) (n : ℕ) → HasPage t u outer n → IsInside t.owners.items inside outer → TablesAgree t →
+page_does : (t u : Tables) (inside outer : Option ℕ) (n : ℕ) → HasPage t u outer n → IsInside t.owners.items inside outer → TablesAgree t →
     (w : World) → at_rest (placed u w) ≡ at_rest (with_new_page inside (placed t w))
 page_does t u inside outer n m i h w =
     let g : ℕ → ℕ = number_in t.owners.items in
@@ -177,13 +190,16 @@ page_does t u inside outer n m i h w =
       told = [];
     }
 
-pub page_leaves : (t u : Tables) (outer : Option ℕ) (n : ℕ) → Adopts t.store u.store outer (the_page n) → LeavesOut None t.store u.store
+page_leaves : (t u : Tables) (outer : Option ℕ) (n : ℕ) → Adopts t.store u.store outer (the_page n) → LeavesOut None t.store u.store
 page_leaves t u outer n m = record { still = λ k off h. ap (has_thing (the_signal k)) m.tree ∙ has_in (the_signal k) (the_page n) t.store outer (owned_of t.store) refl h }
+
+pub page_makes : (t u : Tables) (inside outer : Option ℕ) (n : ℕ) → HasPage t u outer n → IsInside t.owners.items inside outer → TablesAgree t → Makes at_rest None t u (with_new_page inside)
+page_makes t u inside outer n m i h = record { does = page_does t u inside outer n m i h; holds = page_holds t u outer n m h; signals = page_leaves t u outer n m.adopts }
 
 -- ---- a signal
 
 module _ (t u : Tables) (outer : Option ℕ) (n : ℕ) (m : Adopts t.store u.store outer (the_signal n)) (same : u ≡ record t { store = u.store }) where
-  pub signal_holds : TablesAgree t → TablesAgree u
+  signal_holds : TablesAgree t → TablesAgree u
   signal_holds h = subst TablesAgree (sym same) (record {
     numbered = adopted_numbered t.store u.store outer (the_signal n) m t.owners.items (noted t.things) (λ k. refl) h.numbered;
     alive = adopted_alive t.store u.store outer (the_signal n) m t.owners.items t.effects.items h.alive;
@@ -192,7 +208,7 @@ module _ (t u : Tables) (outer : Option ℕ) (n : ℕ) (m : Adopts t.store u.sto
     fitting = h.fitting;
   })
 
-  pub signal_does : (inside : Option ℕ) → IsInside t.owners.items inside outer → TablesAgree t → (w : World) → at_rest (placed u w) ≡ at_rest (adopted n inside (placed t w))
+  signal_does : (inside : Option ℕ) → IsInside t.owners.items inside outer → TablesAgree t → (w : World) → at_rest (placed u w) ≡ at_rest (adopted n inside (placed t w))
   signal_does inside i h w =
       let g : ℕ → ℕ = number_in t.owners.items in
       ap (λ (v : Tables). at_rest (placed v w)) same
@@ -202,7 +218,7 @@ module _ (t u : Tables) (outer : Option ℕ) (n : ℕ) (m : Adopts t.store u.sto
         told = [];
       })
 
-  pub signal_leaves : LeavesOut (Some n) t.store u.store
+  signal_leaves : LeavesOut (Some n) t.store u.store
   signal_leaves = record { still = λ k off h. ap (has_thing (the_signal k)) m.tree ∙ has_in (the_signal k) (the_signal n) t.store outer (owned_of t.store) (other k off) h }
     where
       other : (k : ℕ) → (Some n ≡ Some k → ⊥) → (k == n) ≡ false
@@ -210,3 +226,6 @@ module _ (t u : Tables) (outer : Option ℕ) (n : ℕ) (m : Adopts t.store u.sto
         | inl e ↦ absurd (off (ap Some (sym (eqb-true k n e))))
         | inr e ↦ e
       ]
+
+  pub signal_makes : (inside : Option ℕ) → IsInside t.owners.items inside outer → TablesAgree t → Makes at_rest (Some n) t u (adopted n inside)
+  signal_makes inside i h = record { does = signal_does inside i h; holds = signal_holds h; signals = signal_leaves }

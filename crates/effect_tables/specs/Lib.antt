@@ -7,6 +7,7 @@ pub mod Placed
 pub mod Consistency
 pub mod Locations
 pub mod Children
+pub mod Makings
 pub mod Roots
 pub mod Visits
 pub mod Turned

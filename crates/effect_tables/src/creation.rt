@@ -2,7 +2,7 @@
 ghost use Rattle.std.specs.Prelude.{◌≡◌, ◌+◌, ◌<◌, ◌≤◌, ◌^◌, ◌⊎◌, ◌++◌, ◌∷◌, true, false, [], length, None, Some, IfOk, IfErr, IsErrOf, OnErr, OnOk};
 ghost use Rattle.std.specs.Rc.{rc_value};
 ghost use Rattle.effect_model.specs.Commands.{with_new_effect, with_new_owner, with_new_page};
-ghost use Rattle.effect_model.specs.Worlds.{World, at_rest};
+ghost use Rattle.effect_model.specs.Worlds.{at_rest};
 ghost use Rattle.sig_base.specs.declared.limits.TheConstants.{MOST_PAGES};
 ghost use Rattle.sig_owner.specs.Tables as rows;
 ghost use Rattle.sig_owner.specs.Tables.{live_at};
@@ -11,11 +11,12 @@ ghost use Rattle.sig_owner.specs.declared.errors.OwnFault.TheVariants as fault;
 ghost use Rattle.effect_model.specs.declared.limits.TheConstants.{MOST_OWNERS};
 ghost use Rattle.effect_tables.specs.Children.{adopted, with_child, Adopts, IsRowOf, MakesEffect, MakesOwner};
 ghost use Rattle.effect_tables.specs.Scripts.{IsFitting};
-ghost use Rattle.effect_tables.specs.Consistency.{TablesAgree, LeavesOut};
+ghost use Rattle.effect_tables.specs.Consistency.{TablesAgree};
+ghost use Rattle.effect_tables.specs.Makings.{Makes};
 ghost use Rattle.effect_tables.specs.Bodies.{body_of};
 ghost use Rattle.effect_model.specs.Owners.{is_holder, the_effect, the_signal};
 ghost use Rattle.effect_tables.specs.Owners.{living};
-ghost use Rattle.effect_tables.specs.Placed.{is_open, placed};
+ghost use Rattle.effect_tables.specs.Placed.{is_open};
 
 use crate::effect::{Effect, Script, Site};
 use crate::looks::{is_open, row_inside};
@@ -93,8 +94,7 @@ impl Tables {
     }
 
     /// Makes an owner, which stands last inside the one that is given, else at the top. Its id is the number of owners that were made
-    /// before. Its clauses are those of every making in these tables: its id, what it does to the world, that the tables still agree,
-    /// that no signal came to stand here, what held where it was made, and each refusal with its cause.
+    /// before.
     ///
     /// # Errors
     ///
@@ -103,9 +103,7 @@ impl Tables {
     pub fn make_owner(&mut self, inside: Option<OwnerId>) -> Result<OwnerId, OwnFault>
         requires { TablesAgree self.old }
         ensures id { IfOk result (λ id. id ≡ length self.old.owners.items) }
-        ensures does { (w : World) → OnOk result (placed self.new w ≡ with_new_owner inside (placed self.old w)) }
-        ensures holds { OnOk result (TablesAgree self.new) }
-        ensures signals { OnOk result (LeavesOut None self.old.store self.new.store) }
+        ensures makes { OnOk result (Makes (λ w. w) None self.old self.new (with_new_owner inside)) }
         ensures open { OnOk result (is_open (living 0 self.old.owners.items) inside ≡ true) }
         ensures gone { IsErrOf result fault.Gone → is_open (living 0 self.old.owners.items) inside ≡ false }
         ensures room { OnOk result (length (living 0 self.old.owners.items) < MOST_OWNERS) }
@@ -122,8 +120,8 @@ impl Tables {
     }
 
     /// Makes an effect of a body and its links, which stands last inside the owner that is given, else at the top. It has not run. Its id
-    /// is the number of effects that were made before. Its clauses are those of every making here; beside them it asks that ids are left
-    /// and that the body of the script fits its links, and says that no limit refuses it, which the type of its faults doesn't show.
+    /// is the number of effects that were made before. Beside what every making here says, it asks that ids are left and that the body of
+    /// the script fits its links, and says that no limit refuses it, which the type of its faults doesn't show.
     ///
     /// # Errors
     ///
@@ -138,10 +136,7 @@ impl Tables {
         requires counted { self.old.effects_made + 1 < 2 ^ 128 }
         requires fits { IsFitting script }
         ensures id { IfOk result (λ id. id ≡ self.old.effects_made) }
-        ensures does { (w : World) → OnOk result
-            (placed self.new w ≡ with_new_effect (body_of self.old.effects_made script []) inside (placed self.old w)) }
-        ensures holds { OnOk result (TablesAgree self.new) }
-        ensures signals { OnOk result (LeavesOut None self.old.store self.new.store) }
+        ensures makes { OnOk result (Makes (λ w. w) None self.old self.new (with_new_effect (body_of self.old.effects_made script []) inside)) }
         ensures open { OnOk result (is_open (living 0 self.old.owners.items) inside ≡ true) }
         ensures gone { IsErrOf result fault.Gone → is_open (living 0 self.old.owners.items) inside ≡ false }
         ensures limit { IsErrOf result fault.Limit → ⊥ }
@@ -158,9 +153,7 @@ impl Tables {
     }
 
     /// Makes a child of an effect that lives in this row and whose body stands there: the nested effect at a place of that body. It stands
-    /// last under its parent, and has not run. Its id is the number of effects that were made before. Its clauses are those of a making
-    /// without refusals: the ids that are left, the row of the parent and the script that fits are asked for apart, and how many effects
-    /// were made is told, so that another child may be made.
+    /// last under its parent, and has not run. Its id is the number of effects that were made before.
     ///
     /// # Errors
     ///
@@ -178,10 +171,8 @@ impl Tables {
         requires stands { IsRowOf self.old.store parent row }
         requires fits { IsFitting (rc_value site.now.script) }
         ensures id { IfOk result (λ id. id ≡ self.old.effects_made) }
-        ensures does { (w : World) → OnOk result (placed self.new w
-            ≡ with_child parent (body_of site.now.origin (rc_value site.now.script) (site.now.path.items ++ place ∷ [])) (placed self.old w)) }
-        ensures holds { OnOk result (TablesAgree self.new) }
-        ensures signals { OnOk result (LeavesOut None self.old.store self.new.store) }
+        ensures makes { OnOk result (Makes (λ w. w) None self.old self.new
+            (with_child parent (body_of site.now.origin (rc_value site.now.script) (site.now.path.items ++ place ∷ [])))) }
         ensures made { OnOk result (self.new.effects_made ≡ self.old.effects_made + 1) }
     {
         let id = EffectId::of(self.effects_made);
@@ -194,8 +185,7 @@ impl Tables {
     }
 
     /// Makes a page, which stands last inside the owner that is given, else at the top. Its id is the number of pages that were made
-    /// before. Its clauses are those of every making here, and each refusal has two: what was so where it refused, and that it wasn't so
-    /// where the page was made.
+    /// before. Each refusal has two clauses: what was so where it refused, and that it wasn't so where the page was made.
     ///
     /// # Errors
     ///
@@ -205,9 +195,7 @@ impl Tables {
         requires holds { TablesAgree self.old }
         requires counted { self.old.pages_made + 1 < 2 ^ 128 }
         ensures id { IfOk result (λ id. id ≡ self.old.pages_made) }
-        ensures does { (w : World) → OnOk result (at_rest (placed self.new w) ≡ at_rest (with_new_page inside (placed self.old w))) }
-        ensures holds { OnOk result (TablesAgree self.new) }
-        ensures signals { OnOk result (LeavesOut None self.old.store self.new.store) }
+        ensures makes { OnOk result (Makes at_rest None self.old self.new (with_new_page inside)) }
         ensures open { OnOk result (is_open (living 0 self.old.owners.items) inside ≡ true) }
         ensures gone { IsErrOf result fault.Gone → is_open (living 0 self.old.owners.items) inside ≡ false }
         ensures room { OnOk result (length self.old.pages.items < MOST_PAGES) }
@@ -226,8 +214,7 @@ impl Tables {
         Ok(id)
     }
 
-    /// Puts a signal that was just made last inside the owner that is given, where one is. Its clauses are those of a making but for the
-    /// id, as the making of a signal ends with it; the signal is the only one that may come to stand here.
+    /// Puts a signal that was just made last inside the owner that is given, where one is.
     ///
     /// # Errors
     ///
@@ -235,9 +222,7 @@ impl Tables {
     pub fn adopt_signal(&mut self, id: NodeId, inside: Option<OwnerId>) -> Result<(), OwnFault>
         requires holds { TablesAgree self.old }
         requires lone { has_thing (the_signal id) (owned_of self.old.store) ≡ false }
-        ensures does { (w : World) → OnOk result (at_rest (placed self.new w) ≡ at_rest (adopted id inside (placed self.old w))) }
-        ensures holds { OnOk result (TablesAgree self.new) }
-        ensures signals { OnOk result (LeavesOut (Some id) self.old.store self.new.store) }
+        ensures makes { OnOk result (Makes at_rest (Some id) self.old self.new (adopted id inside)) }
         ensures open { OnOk result (is_open (living 0 self.old.owners.items) inside ≡ true) }
         ensures limit { IsErrOf result fault.Limit → ⊥ }
         ensures gone { IsErrOf result fault.Gone → is_open (living 0 self.old.owners.items) inside ≡ false }

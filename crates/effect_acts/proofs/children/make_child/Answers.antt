@@ -26,7 +26,7 @@ returns-clause-done c = λ asked slacks a.
     let path = c.args.site.now.path.items in
     let b = body_of c.args.site.now.origin s (path ++ c.args.place ∷ []) in
     acted_tabled slacks c.args.world.now c.make_child.new.self asked _ _ (event.Made c.in_ok-child.child c.args.id c.args.label) (made_child c.args.world.now.tables.effects_made c.args.id c.args.label)
-    (λ env. make_child c.args.id c.args.label ((parts_of c.args.site.now.origin s path).bodies c.args.place)) (with_child c.args.id b) c.in_ok-child.ensures.does
+    (λ env. make_child c.args.id c.args.label ((parts_of c.args.site.now.origin s path).bodies c.args.place)) (with_child c.args.id b) c.in_ok-child.ensures.makes.does
     (λ env. ap (λ x. make_child c.args.id c.args.label x (whole_of asked c.args.world.now)) (sym (child_body c.args.site.now.origin s path c.args.place))) refl
     (ap (λ n. made_child n c.args.id c.args.label) (sym c.in_ok-child.ensures.id)) c.in_ok-push.ensures.items (let m = c.in_ok-child.ensures.made in omega (arith, m))
-    (owned_child asked c.args.world.now c.make_child.new.self c.args.id b c.in_ok-child.ensures.does c.in_ok-child.ensures.signals c.in_ok-child.ensures.holds a.owned) a
+    (owned_child asked c.args.world.now c.make_child.new.self c.args.id b c.in_ok-child.ensures.makes.does c.in_ok-child.ensures.makes.signals c.in_ok-child.ensures.makes.holds a.owned) a

@@ -1,10 +1,10 @@
 use Rattle.std.proofs.Common.{refl}
 use Rattle.effect_tables.specs.declared.tables.Tables.{Tables}
-use Rattle.effect_tables.proofs.Tabled.{signal_does, signal_holds, signal_leaves}
+use Rattle.effect_tables.proofs.Tabled.{signal_makes}
 use Rattle.effect_tables.proofs.tables.Tables.adopt_signal.Goals as goal
 
-pub returns-clause-does : goal.returns-clause-does
-returns-clause-does c =
+pub returns-clause-makes : goal.returns-clause-makes
+returns-clause-makes c =
     let t : Tables = record {
       store = c.adopt_in.new.store;
       things = c.args.self.now.things;
@@ -14,31 +14,5 @@ returns-clause-does c =
       effects_made = c.args.self.now.effects_made;
       pages_made = c.args.self.now.pages_made;
     } in
-    signal_does c.args.self.now t c.in_ok-outer.outer c.args.id c.in_ok-adopt_in.ensures.adopts refl c.args.inside
+    signal_makes c.args.self.now t c.in_ok-outer.outer c.args.id c.in_ok-adopt_in.ensures.adopts refl c.args.inside
     c.in_ok-outer.ensures.inside c.requires.holds
-
-pub returns-clause-holds : goal.returns-clause-holds
-returns-clause-holds c =
-    let t : Tables = record {
-      store = c.adopt_in.new.store;
-      things = c.args.self.now.things;
-      owners = c.args.self.now.owners;
-      effects = c.args.self.now.effects;
-      pages = c.args.self.now.pages;
-      effects_made = c.args.self.now.effects_made;
-      pages_made = c.args.self.now.pages_made;
-    } in
-    signal_holds c.args.self.now t c.in_ok-outer.outer c.args.id c.in_ok-adopt_in.ensures.adopts refl c.requires.holds
-
-pub returns-clause-signals : goal.returns-clause-signals
-returns-clause-signals c =
-    let t : Tables = record {
-      store = c.adopt_in.new.store;
-      things = c.args.self.now.things;
-      owners = c.args.self.now.owners;
-      effects = c.args.self.now.effects;
-      pages = c.args.self.now.pages;
-      effects_made = c.args.self.now.effects_made;
-      pages_made = c.args.self.now.pages_made;
-    } in
-    signal_leaves c.args.self.now t c.in_ok-outer.outer c.args.id c.in_ok-adopt_in.ensures.adopts refl

@@ -8,7 +8,7 @@ use Rattle.effect_tables.specs.Placed.{is_open}
 use Rattle.effect_tables.proofs.Counts.{owners_counted}
 use Rattle.effect_tables.specs.Things.{noted}
 use Rattle.effect_tables.proofs.Creations.{open_row}
-use Rattle.effect_tables.proofs.Tabled.{owner_does, owner_holds, owner_leaves}
+use Rattle.effect_tables.proofs.Tabled.{owner_makes}
 use Rattle.effect_tables.proofs.tables.Tables.make_owner.Goals as goal
 
 pub make_in-requires : goal.make_in-requires
@@ -24,8 +24,8 @@ returns-in_err-row-clause-limit c =
 pub returns-clause-room : goal.returns-clause-room
 returns-clause-room c = subst (λ n. n < MOST_OWNERS) (owners_counted c.args.self.now c.requires) c.in_ok-row.ensures.room
 
-pub returns-clause-does : goal.returns-clause-does
-returns-clause-does c =
+pub returns-clause-makes : goal.returns-clause-makes
+returns-clause-makes c =
     let t : Tables = record {
       store = c.make_in.new.store;
       things = c.note_thing.new.things;
@@ -35,7 +35,7 @@ returns-clause-does c =
       effects_made = c.args.self.now.effects_made;
       pages_made = c.args.self.now.pages_made;
     } in
-    owner_does c.args.self.now t c.args.inside c.in_ok-outer.outer c.in_ok-row.row c.of-id.result (record {
+    owner_makes c.args.self.now t c.args.inside c.in_ok-outer.outer c.in_ok-row.row c.of-id.result (record {
       made = c.in_ok-row.ensures.made;
       number = c.of-id.ensures ∙ c.made.ensures;
       things = c.in_ok-note_thing.ensures;
@@ -46,39 +46,3 @@ returns-clause-does c =
       pages_made = refl;
     })
     c.in_ok-outer.ensures.inside c.requires
-
-pub returns-clause-holds : goal.returns-clause-holds
-returns-clause-holds c =
-    let t : Tables = record {
-      store = c.make_in.new.store;
-      things = c.note_thing.new.things;
-      owners = c.add.new.self;
-      effects = c.args.self.now.effects;
-      pages = c.args.self.now.pages;
-      effects_made = c.args.self.now.effects_made;
-      pages_made = c.args.self.now.pages_made;
-    } in
-    owner_holds c.args.self.now t c.args.inside c.in_ok-outer.outer c.in_ok-row.row c.of-id.result (record {
-      made = c.in_ok-row.ensures.made;
-      number = c.of-id.ensures ∙ c.made.ensures;
-      things = c.in_ok-note_thing.ensures;
-      owners = c.in_ok-add.ensures;
-      effects = refl;
-      pages = refl;
-      effects_made = refl;
-      pages_made = refl;
-    })
-    c.in_ok-outer.ensures.inside c.requires
-
-pub returns-clause-signals : goal.returns-clause-signals
-returns-clause-signals c =
-    let t : Tables = record {
-      store = c.make_in.new.store;
-      things = c.note_thing.new.things;
-      owners = c.add.new.self;
-      effects = c.args.self.now.effects;
-      pages = c.args.self.now.pages;
-      effects_made = c.args.self.now.effects_made;
-      pages_made = c.args.self.now.pages_made;
-    } in
-    owner_leaves c.args.self.now t c.in_ok-outer.outer c.in_ok-row.row c.in_ok-row.ensures.made

@@ -1,11 +1,11 @@
 use Rattle.std.proofs.Common.{refl}
 use Rattle.std.specs.Prelude.{◌+◌}
 use Rattle.effect_tables.specs.declared.tables.Tables.{Tables}
-use Rattle.effect_tables.proofs.Tabled.{page_does, page_holds, page_leaves}
+use Rattle.effect_tables.proofs.Tabled.{page_makes}
 use Rattle.effect_tables.proofs.tables.Tables.make_page.Goals as goal
 
-pub returns-clause-does : goal.returns-clause-does
-returns-clause-does c =
+pub returns-clause-makes : goal.returns-clause-makes
+returns-clause-makes c =
     let t : Tables = record {
       store = c.adopt_in.new.store;
       things = c.args.self.now.things;
@@ -15,7 +15,7 @@ returns-clause-does c =
       effects_made = c.args.self.now.effects_made;
       pages_made = c.args.self.now.pages_made + 1;
     } in
-    page_does c.args.self.now t c.args.inside c.in_ok-outer.outer c.of-id.result (record {
+    page_makes c.args.self.now t c.args.inside c.in_ok-outer.outer c.of-id.result (record {
       adopts = c.in_ok-adopt_in.ensures.adopts;
       number = c.of-id.ensures;
       pages = c.in_ok-push.ensures.items;
@@ -26,38 +26,3 @@ returns-clause-does c =
       pages_made = refl;
     })
     c.in_ok-outer.ensures.inside c.requires.holds
-
-pub returns-clause-holds : goal.returns-clause-holds
-returns-clause-holds c =
-    let t : Tables = record {
-      store = c.adopt_in.new.store;
-      things = c.args.self.now.things;
-      owners = c.args.self.now.owners;
-      effects = c.args.self.now.effects;
-      pages = c.push.new.self;
-      effects_made = c.args.self.now.effects_made;
-      pages_made = c.args.self.now.pages_made + 1;
-    } in
-    page_holds c.args.self.now t c.in_ok-outer.outer c.of-id.result (record {
-      adopts = c.in_ok-adopt_in.ensures.adopts;
-      number = c.of-id.ensures;
-      pages = c.in_ok-push.ensures.items;
-      things = refl;
-      owners = refl;
-      effects = refl;
-      effects_made = refl;
-      pages_made = refl;
-    }) c.requires.holds
-
-pub returns-clause-signals : goal.returns-clause-signals
-returns-clause-signals c =
-    let t : Tables = record {
-      store = c.adopt_in.new.store;
-      things = c.args.self.now.things;
-      owners = c.args.self.now.owners;
-      effects = c.args.self.now.effects;
-      pages = c.push.new.self;
-      effects_made = c.args.self.now.effects_made;
-      pages_made = c.args.self.now.pages_made + 1;
-    } in
-    page_leaves c.args.self.now t c.in_ok-outer.outer c.of-id.result c.in_ok-adopt_in.ensures.adopts

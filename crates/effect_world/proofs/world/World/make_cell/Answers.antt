@@ -23,7 +23,7 @@ returns-in-Ok-clause-does c = λ hosts asked sound.
     let new : World = record { graph = c.add_cell.new.self; watchers = c.args.self.now.watchers; tables = c.adopt_signal.new.self } in
     let m = c.in_ok-id.ensures.after in
     cell_done hosts asked c.args.self.now new c.args.value c.args.rule c.args.inside c.in_ok-id.id m.id
-    (cell_does hosts asked (stores_of c.args.self.now) (stores_of new) c.args.value c.args.rule c.in_ok-id.id m refl sound) c.in-Ok.ensures.holds c.in-Ok.ensures.does
+    (cell_does hosts asked (stores_of c.args.self.now) (stores_of new) c.args.value c.args.rule c.in_ok-id.id m refl sound) c.in-Ok.ensures.makes.holds c.in-Ok.ensures.makes.does
 
 pub returns-in-Ok-clause-agrees : goal.returns-in-Ok-clause-agrees
 returns-in-Ok-clause-agrees c = λ asked a.
@@ -32,7 +32,7 @@ returns-in-Ok-clause-agrees c = λ asked a.
     record {
       signals = cell_agrees asked (stores_of c.args.self.now) (stores_of new) c.args.value c.args.rule c.in_ok-id.id m refl a.signals;
       owned = owned_more c.args.self.now new c.args.inside c.in_ok-id.id m.id m.given
-          (ap (λ (w : plain.World). w.owned) (c.in-Ok.ensures.does (wholes.whole_of asked (stores_of new)))) c.in-Ok.ensures.holds c.in-Ok.ensures.signals a.owned;
+          (ap (λ (w : plain.World). w.owned) (c.in-Ok.ensures.makes.does (wholes.whole_of asked (stores_of new)))) c.in-Ok.ensures.makes.holds c.in-Ok.ensures.makes.signals a.owned;
     }
 
 pub returns-in-Ok-clause-ruled : goal.returns-in-Ok-clause-ruled

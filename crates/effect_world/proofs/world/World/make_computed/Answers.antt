@@ -36,7 +36,7 @@ returns-in-Ok-clause-does c = λ hosts asked a free sound.
     computed_done hosts asked c.args.self.now new r c.args.inside c.in_ok-id.id m.id
     (computed_does hosts asked (stores_of c.args.self.now) (stores_of new) r c.in_ok-id.id m refl a.signals
     (sym (host_same (host_of (expression_of c.args.recipe)) c.args.self.now.tables (wholes.whole_of asked (stores_of c.args.self.now))) ∙ free) sound)
-    c.in-Ok.ensures.holds c.in-Ok.ensures.does
+    c.in-Ok.ensures.makes.holds c.in-Ok.ensures.makes.does
 
 pub returns-in-Ok-clause-agrees : goal.returns-in-Ok-clause-agrees
 returns-in-Ok-clause-agrees c = λ asked a free.
@@ -47,7 +47,7 @@ returns-in-Ok-clause-agrees c = λ asked a free.
       signals = computed_agrees asked (stores_of c.args.self.now) (stores_of new) r c.in_ok-id.id m refl a.signals
           (sym (host_same (host_of (expression_of c.args.recipe)) c.args.self.now.tables (wholes.whole_of asked (stores_of c.args.self.now))) ∙ free);
       owned = owned_more c.args.self.now new c.args.inside c.in_ok-id.id m.id m.given
-          (ap (λ (w : plain.World). w.owned) (c.in-Ok.ensures.does (wholes.whole_of asked (stores_of new)))) c.in-Ok.ensures.holds c.in-Ok.ensures.signals a.owned;
+          (ap (λ (w : plain.World). w.owned) (c.in-Ok.ensures.makes.does (wholes.whole_of asked (stores_of new)))) c.in-Ok.ensures.makes.holds c.in-Ok.ensures.makes.signals a.owned;
     }
 
 pub returns-in-Ok-clause-ruled : goal.returns-in-Ok-clause-ruled

@@ -12,7 +12,7 @@ use Rattle.effect_world.proofs.world.World.make_effect.Goals as goal
 pub returns-clause-does : goal.returns-clause-does
 returns-clause-does c = λ hosts asked sound.
     let new : World = record { graph = c.args.self.now.graph; watchers = c.args.self.now.watchers; tables = c.make_effect.new.self } in
-    tables_done hosts asked c.args.self.now new [] (with_new_effect (body_of c.args.self.now.tables.effects_made c.args.script []) c.args.inside) c.in_ok-id.ensures.does refl c.in_ok-id.ensures.holds sound
+    tables_done hosts asked c.args.self.now new [] (with_new_effect (body_of c.args.self.now.tables.effects_made c.args.script []) c.args.inside) c.in_ok-id.ensures.makes.does refl c.in_ok-id.ensures.makes.holds sound
 
 pub returns-clause-agrees : goal.returns-clause-agrees
 returns-clause-agrees c = λ asked a.
@@ -20,6 +20,6 @@ returns-clause-agrees c = λ asked a.
     record {
       signals = a.signals;
       owned = owned_same c.args.self.now new c.args.inside (the_effect c.args.self.now.tables.effects_made) tt refl
-          (ap (λ (w : plain.World). listed w.owned) (c.in_ok-id.ensures.does (wholes.whole_of asked (stores_of c.args.self.now))))
-          c.in_ok-id.ensures.holds c.in_ok-id.ensures.signals a.owned;
+          (ap (λ (w : plain.World). listed w.owned) (c.in_ok-id.ensures.makes.does (wholes.whole_of asked (stores_of c.args.self.now))))
+          c.in_ok-id.ensures.makes.holds c.in_ok-id.ensures.makes.signals a.owned;
     }
