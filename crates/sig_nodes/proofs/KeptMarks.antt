@@ -28,7 +28,7 @@ use Rattle.sig_nodes.proofs.Consistency.{computed_below, computed_here, computed
 use Rattle.sig_nodes.proofs.ReachedSeats.{named_holder, seated_at, seated_is, HasSeated}
 use Rattle.sig_nodes.proofs.Walks.{clear_end}
 use Rattle.sig_nodes.proofs.Searches.{calm_run}
-use Rattle.sig_nodes.specs.Places.{NodesAgree, IsGraph, KeepsMarks, KeepsStanding}
+use Rattle.sig_nodes.specs.Places.{AreLinked, IsGraph, KeepsMarks, KeepsStanding, LinksAnew, NodesAgree}
 use Rattle.sig_nodes.specs.StateMarks.{AreStateMarks}
 use Rattle.sig_nodes.proofs.MarkedStates.{begin_law, cell_law, computed_law, dispose_law, keep_law, onward_law, rewire_law, set_law, stop_law, turned, unmark_law}
 
@@ -275,9 +275,40 @@ stopped_kept n xs gen t us on size marks h =
           (stop_law s (depends t.dependants) (marked_at t.marked) n c.0 c.1 (computing_at xs gen n on) h.marked));
     }
 
+-- what lives notes a computed where it is kept
+pub linked_here : (n : ℕ) (xs : List Node) (gen : ℕ) (t : MarkTable) → KeepsMarks xs gen t → AreLinked xs t.dependants n
+linked_here n xs gen t h m live = h.marked.links m n (live_here xs m ∙ live) ∙ keeps_is xs gen n m
+
+-- sources that are read again
+pub links_same : (n : ℕ) (xs : List Node) (dss : List (List ℕ)) (reads : List ℕ) → AreLinked xs dss n → kept_names xs n ≡ reads → LinksAnew xs dss dss n reads
+links_same n xs dss reads linked same = record { len = refl; now = λ m d live. by m d live (tested (n == d)) }
+  where
+    by : (m d : ℕ) → is_live_body (body_at xs m) ≡ true → ((n == d) ≡ true) ⊎ ((n == d) ≡ false) → depends dss m d ≡ relinked (depends dss) n reads m d
+    by m d live (inr e) = sym (ap (λ b. if b then is_in m reads else depends dss m d) e)
+    by m d live (inl e) =
+        ap (depends dss m) (sym (eqb-true n d e)) ∙ linked m live ∙ ap (is_in m) same ∙ sym (ap (λ b. if b then is_in m reads else depends dss m d) e)
+
+-- and others
+pub links_others : (n : ℕ) (xs : List Node) (dss dss' : List (List ℕ)) (stands : List Bool) (reads : List ℕ) → KeepsStanding xs stands → AreLinked xs dss n →
+    Relinks dss dss' stands (kept_names xs n) reads n → LinksAnew xs dss dss' n reads
+links_others n xs dss dss' stands reads standing linked link = record { len = link.len; now = λ m d live. link.now m d (standing.live m live) ∙ by m d live (tested (n == d)) }
+  where
+    by : (m d : ℕ) → is_live_body (body_at xs m) ≡ true → ((n == d) ≡ true) ⊎ ((n == d) ≡ false) →
+        (if n == d && is_in m reads then true else (if n == d && is_in m (kept_names xs n) then false else depends dss m d)) ≡ relinked (depends dss) n reads m d
+    by m d live (inr e) = (λ i. if e i && is_in m reads then true else (if e i && is_in m (kept_names xs n) then false else depends dss m d)) ∙ sym (ap (λ b. if b then is_in m reads else depends dss m d) e)
+    by m d live (inl e) =
+        (λ i. if e i && is_in m reads then true else (if e i && is_in m (kept_names xs n) then false else depends dss m d))
+        ∙ here (is_in m reads) (is_in m (kept_names xs n)) (depends dss m d) (ap (depends dss m) (sym (eqb-true n d e)) ∙ linked m live)
+        ∙ sym (ap (λ b. if b then is_in m reads else depends dss m d) e)
+      where
+        here : (a b x : Bool) → x ≡ b → (if a then true else (if b then false else x)) ≡ a
+        here true b x q = refl
+        here false true x q = refl
+        here false false x q = q
+
 -- an end with a run
 pub run_kept : (o : Outcome) (reads : List ℕ) (n : ℕ) (xs : List Node) (gen : ℕ) (t : MarkTable) (dss : List (List ℕ)) (us : List Bool) → is_some (known_body (body_at xs n)) ≡ true →
-    Relinks t.dependants dss t.stands (kept_names xs n) reads n → length us ≡ length t.marked →
+    LinksAnew xs t.dependants dss n reads → length us ≡ length t.marked →
     ((m : ℕ) → marked_at us m ≡ ended (marked_at t.marked) n (run_unmarks (signals_of xs) (marked_at t.marked) o reads) m) →
     KeepsMarks xs gen t → KeepsMarks (changed_at (run_node (memo_made o (map (named_now (memos_of gen xs)) reads) gen)) n xs) gen (record { dependants = dss; marked = us; stands = t.stands })
 run_kept o reads n xs gen t dss us on link size marks h =
@@ -292,7 +323,7 @@ run_kept o reads n xs gen t dss us on link size marks h =
       flags = size ∙ h.flags ∙ sym len;
       standing = kept_standing (run_node memo) (λ b. with_body_memo b memo) n xs t.stands (λ x. refl) refl h.standing;
       marked = subst (λ (z : State). AreStateMarks z (depends dss) (marked_at us)) (sym (run_state xs n o reads gen 0 0 live))
-          (same_links (signals_of xs) after.memos (relinked (depends t.dependants) n reads) (depends dss) (marked_at us) (is_computing after) (λ m d s. link.now m d (h.standing.live m (sym (live_here xs m) ∙ s)) ∙ by m d s (tested (n == d)))
+          (same_links (signals_of xs) after.memos (relinked (depends t.dependants) n reads) (depends dss) (marked_at us) (is_computing after) (λ m d s. link.now m d (sym (live_here xs m) ∙ s))
           (same_marks (signals_of xs) after.memos (relinked (depends t.dependants) n reads) (ended (marked_at t.marked) n f) (marked_at us) (is_computing after) marks done));
     }
   where
@@ -304,20 +335,6 @@ run_kept o reads n xs gen t dss us on link size marks h =
 
     f : Bool
     f = run_unmarks (signals_of xs) (marked_at t.marked) o reads
-
-    by : (m d : ℕ) → is_there (standing (signals_of xs) m) ≡ true → ((n == d) ≡ true) ⊎ ((n == d) ≡ false) →
-        (if n == d && is_in m reads then true else (if n == d && is_in m (kept_names xs n) then false else depends t.dependants m d)) ≡ relinked (depends t.dependants) n reads m d
-    by m d s (inr e) = (λ i. if e i && is_in m reads then true else (if e i && is_in m (kept_names xs n) then false else depends t.dependants m d)) ∙ sym (ap (λ b. if b then is_in m reads else depends t.dependants m d) e)
-    by m d s (inl e) =
-        (λ i. if e i && is_in m reads then true else (if e i && is_in m (kept_names xs n) then false else depends t.dependants m d))
-        ∙ here (is_in m reads) (is_in m (kept_names xs n)) (depends t.dependants m d)
-        (ap (depends t.dependants m) (sym (eqb-true n d e)) ∙ h.marked.links m n s ∙ keeps_is xs gen n m)
-        ∙ sym (ap (λ b. if b then is_in m reads else depends t.dependants m d) e)
-      where
-        here : (a b x : Bool) → x ≡ b → (if a then true else (if b then false else x)) ≡ a
-        here true b x q = refl
-        here false true x q = refl
-        here false false x q = q
 
 -- a disposal
 pub gone_kept : (n : ℕ) (xs : List Node) (gen : ℕ) (t : MarkTable) (dss : List (List ℕ)) (us : List Bool) → is_live_body (body_at xs n) ≡ true → Spreads t.dependants t.marked us n →

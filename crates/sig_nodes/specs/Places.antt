@@ -3,6 +3,7 @@ use Rattle.std.specs.Prelude.{◌≡◌, ℕ, ◌+◌, ◌<◌, ◌≤◌, Bool,
 use Rattle.sig_base.specs.declared.limits.TheConstants.{MOST_NODES}
 use Rattle.signal_model.specs.Signals.{is_in}
 use Rattle.signal_model.specs.Memos.{source_names, sources_in}
+use Rattle.mark_laws.specs.Marked.{relinked}
 use Rattle.sig_nodes.specs.declared.node.Node.{Node}
 use Rattle.sig_nodes.specs.Nodes.{cells_of, computeds_of, body_at, change_at, seat_at, is_computed_body, is_live_body, memo_body, slots_body, state_of, FewSlotsBody}
 use Rattle.sig_nodes.specs.Search.{found_at, HasDue}
@@ -29,6 +30,16 @@ pub record NodesAgree (nodes : List Node) (seats : Seating) (generation worn : �
 pub record KeepsStanding (nodes : List Node) (stands : List Bool) : Type 0 where
   pub size : length stands ≡ length nodes
   pub live : (n : ℕ) → is_live_body (body_at nodes n) ≡ true → stands_at stands n ≡ true
+
+-- what lives notes the computed n as a dependant exactly where n keeps it
+abbrev pub AreLinked : List Node → List (List ℕ) → ℕ → Type 0
+AreLinked nodes dependants n =
+    (m : ℕ) → is_live_body (body_at nodes m) ≡ true → depends dependants m n ≡ is_in m (source_names (sources_in (memo_body (body_at nodes n))))
+
+-- once n has read these, what lives notes n exactly where it was read, and the others as before
+pub record LinksAnew (nodes : List Node) (old new : List (List ℕ)) (n : ℕ) (reads : List ℕ) : Type 0 where
+  pub len : length new ≡ length old
+  pub now : (m d : ℕ) → is_live_body (body_at nodes m) ≡ true → depends new m d ≡ relinked (depends old) n reads m d
 
 -- each node has dependants and a mark, and these are true of the state
 pub record KeepsMarks (nodes : List Node) (generation : ℕ) (t : MarkTable) : Type 0 where

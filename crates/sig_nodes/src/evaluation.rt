@@ -7,9 +7,10 @@ ghost use Rattle.sig_nodes.specs.Answers.{has_moved, slots_here, IsAnswerHere, I
 ghost use Rattle.sig_nodes.specs.States.{counted, is_computing, is_given, progress_at, with_kept_run, with_look, with_progress, Becomes, CanWear, GoesOn};
 
 use crate::answers::Asked;
-use crate::bodies::{is_stale_at, moved_at, numbers_now, sources_at};
+use crate::bodies::{is_stale_at, moved_at, numbers_now};
 use crate::end_marks::{end_mark, run_unmarks, stop_unmarks};
 use crate::graph::Graph;
+use crate::links::relink;
 use crate::node::Memo;
 use crate::store::{ask_at, begin_at, end_at, keep_memo_at};
 use sig_base::{Known, NoMemory, NodeId, Outcome};
@@ -93,7 +94,7 @@ impl Graph {
     {
         let _count = self.nodes.made();
         let numbers = numbers_now(self.alloc, &self.nodes, &reads)?;
-        self.marks.relink(sources_at(&self.nodes, id), &reads, id)?;
+        relink(&self.nodes, &mut self.marks, id, &reads)?;
         let unmarks = run_unmarks(&self.nodes, &self.marks, &outcome, &reads);
         end_mark(&mut self.marks, id, unmarks);
         self.worn += 1;

@@ -8,6 +8,7 @@ mod errors;
 mod evaluation;
 mod finds;
 mod graph;
+mod links;
 mod looks;
 mod marks;
 mod node;

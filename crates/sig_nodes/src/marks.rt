@@ -5,9 +5,9 @@ ghost use Rattle.sig_nodes.specs.Nodes.{body_at, has_differed, is_computed_body,
 ghost use Rattle.sig_nodes.specs.Places.{KeepsFound};
 ghost use Rattle.sig_nodes.specs.Search.{is_due_at, HasDue};
 
-use crate::bodies::{computation_at, differs, seat_at};
+use crate::bodies::{computation_at, differs};
 use crate::finds::Finds;
-use crate::node::Computation;
+use crate::node::{Body, Computation, Node};
 use crate::nodes::Nodes;
 use sig_base::NodeId;
 
@@ -52,13 +52,24 @@ pub(crate) fn is_due(nodes: &Nodes, generation: u128, id: NodeId) -> bool
     }
 }
 
+// The seat of a node, none where no computed lives in it.
+fn seat_of(node: &Node) -> Option<usize>
+    ensures some { IfSome result (λ s. (is_computed_body node.now.body ≡ true) × (s ≡ node.now.seat)) }
+    ensures none { IfNone result (is_computed_body node.now.body ≡ false) }
+{
+    match node.body {
+        Body::Computed(_) => Some(node.seat),
+        _ => None,
+    }
+}
+
 /// The seat of a computed, none where no computed stands.
 pub(crate) fn computed_seat(nodes: &Nodes, id: NodeId) -> Option<usize>
     ensures some { IfSome result (λ s. (is_computed_body (body_at nodes.now.items id) ≡ true) × (s ≡ seat_at nodes.now.items id)) }
     ensures none { IfNone result (is_computed_body (body_at nodes.now.items id) ≡ false) }
 {
-    match computation_at(nodes, id) {
-        Some(_) => Some(seat_at(nodes, id)),
+    match nodes.at(id) {
+        Some(node) => seat_of(node),
         None => None,
     }
 }

@@ -1,16 +1,16 @@
 use Rattle.std.proofs.Common.{refl, Bool, ◌&&◌, not}
 use Rattle.signal_model.specs.Memos.{is_cycle}
 use Rattle.mark_laws.specs.Marked.{ended}
-use Rattle.sig_marks.specs.Tables.{Relinks, marked_at, stands_at}
+use Rattle.sig_marks.specs.Tables.{marked_at, stands_at}
 use Rattle.sig_nodes.specs.Search.{some_marked_at}
 use Rattle.sig_nodes.proofs.KeptFinds.{raised_kept}
-use Rattle.sig_nodes.proofs.KeptMarks.{kept_names, names_below, run_is, run_kept, same_table}
+use Rattle.sig_nodes.proofs.KeptMarks.{linked_here, names_below, run_is, run_kept, same_table}
 use Rattle.std.proofs.Common.{◌≡◌, ◌+◌, ◌<◌, true, List, length, map, sym, ap, ◌∙◌, subst, is_some}
 use Rattle.std.specs.List.{All}
 use Rattle.signal_model.specs.Memos.{Memo, named_now}
 use Rattle.sig_nodes.specs.declared.node.Node.{Node}
 use Rattle.sig_nodes.specs.States.{Seen, is_computing, with_kept_run}
-use Rattle.sig_nodes.specs.Places.{NodesAgree, KeepsMarks}
+use Rattle.sig_nodes.specs.Places.{LinksAnew, NodesAgree, KeepsMarks}
 use Rattle.sig_nodes.specs.Nodes.{body_at, changed_at, memos_of, number_at, run_node, state_of}
 use Rattle.sig_nodes.proofs.Parts.{progress_found}
 use Rattle.sig_nodes.proofs.Edits.{changed_length, memo_made, run_state}
@@ -26,10 +26,7 @@ keep_memo_at-requires-clause-live c = computing_here (body_at c.self.inside.node
 pub relink-requires-clause-sources : goal.relink-requires-clause-sources
 relink-requires-clause-sources c =
     let xs = c.self.inside.nodes.items in
-    let t = c.self.inside.marks in
-    let names = c.sources_at.ensures in
-    let below = names_below xs c.self.inside.seats c.self.inside.generation c.self.inside.worn c.args.id t c.self.invariant.fields c.self.invariant.marks in
-    subst (λ (ns : List ℕ). All (λ m. m < length t.marked) ns) (sym names) below
+    names_below xs c.self.inside.seats c.self.inside.generation c.self.inside.worn c.args.id c.self.inside.marks c.self.invariant.fields c.self.invariant.marks
 
 pub relink-requires-clause-reads : goal.relink-requires-clause-reads
 relink-requires-clause-reads c =
@@ -42,6 +39,12 @@ pub relink-requires-clause-reader : goal.relink-requires-clause-reader
 relink-requires-clause-reader c =
     let live = computing_here (body_at c.self.inside.nodes.items c.args.id) (sym (ap is_some (progress_found c.self.inside.nodes.items c.args.id)) ∙ ap (λ (s : Seen). is_computing s.state c.args.id) c.self.view_is ∙ c.requires.computing) in
     subst (λ z. c.args.id < z) (sym c.self.invariant.marks.flags) (computed_below c.self.inside.nodes.items c.args.id live)
+
+pub relink-requires-clause-standing : goal.relink-requires-clause-standing
+relink-requires-clause-standing c = c.self.invariant.marks.standing
+
+pub relink-requires-clause-linked : goal.relink-requires-clause-linked
+relink-requires-clause-linked c = linked_here c.args.id c.self.inside.nodes.items c.self.inside.generation c.self.inside.marks c.self.invariant.marks
 
 pub end_mark-requires-clause-stands : goal.end_mark-requires-clause-stands
 end_mark-requires-clause-stands c =
@@ -69,17 +72,15 @@ invariant_of-self-2 c =
     let given = given_below c.args.self.now (state_of xs g c.self.inside.looked c.self.inside.worn) c.self.inside.seats.holders (length xs) rs c.self.view_is c.requires.given in
     let named = subst (λ (ns : List ℕ). All (λ m. m < length xs) ns) (sym (names_now (memos_of g xs) rs)) given in
     let on = sym (ap is_some (progress_found c.self.inside.nodes.items c.args.id)) ∙ ap (λ (s : Seen). is_computing s.state c.args.id) c.self.view_is ∙ c.requires.computing in
-    let names = c.sources_at.ensures in
-    let link = subst (λ (ns : List ℕ). Relinks t.dependants c.relink.new.self.dependants t.stands (kept_names xs c.args.id) ns c.args.id) c.deref-2.ensures.value
-    (subst (λ (ns : List ℕ). Relinks t.dependants c.relink.new.self.dependants t.stands ns c.deref-2.result.now c.args.id) names c.in_ok-relink.ensures.after) in
+    let link = subst (λ (ns : List ℕ). LinksAnew xs t.dependants c.relink.new.marks.dependants c.args.id ns) c.deref-2.ensures.value c.in_ok-relink.ensures.after in
     let unmarks = c.run_unmarks-unmarks.ensures ∙ (λ i. not (is_cycle o) && not (some_marked_at xs (c.relink.ensures.marks i) (c.deref-3.ensures.value i))) ∙ run_is xs t.marked o rs in
     let size = c.end_mark.ensures.size ∙ ap (λ (us : List Bool). length us) c.relink.ensures.marks in
-    let marks = run_kept o rs c.args.id xs g t c.relink.new.self.dependants c.end_mark.new.marks.marked on link size
+    let marks = run_kept o rs c.args.id xs g t c.relink.new.marks.dependants c.end_mark.new.marks.marked on link size
     (λ m. c.end_mark.ensures.marks m ∙ (λ i. ended (marked_at (c.relink.ensures.marks i)) c.args.id (unmarks i) m)) c.self.invariant.marks in
     record {
       fields = subst (λ (ys : List Node). NodesAgree ys c.self.inside.seats g (c.self.inside.worn + 1)) (sym nodes) (run_holds made c.args.id xs c.self.inside.seats g c.self.inside.worn named c.self.invariant.fields);
       marks = subst (λ (ys : List Node). KeepsMarks ys g c.end_mark.new.marks) (sym nodes)
-          (same_table (changed_at (run_node made) c.args.id xs) g c.end_mark.new.marks c.relink.new.self.dependants c.end_mark.new.marks.marked t.stands c.end_mark.ensures.dependants refl (c.end_mark.ensures.stands ∙ c.relink.ensures.stands) marks);
+          (same_table (changed_at (run_node made) c.args.id xs) g c.end_mark.new.marks c.relink.new.marks.dependants c.end_mark.new.marks.marked t.stands c.end_mark.ensures.dependants refl (c.end_mark.ensures.stands ∙ c.relink.ensures.stands) marks);
       found = raised_kept xs c.keep_memo_at.new.nodes.items g g c.self.inside.worn c.self.inside.finds c.self.invariant.found;
     }
 
