@@ -1,11 +1,11 @@
 -- A look at the sources from a place on, and what it counts.
-use Rattle.std.proofs.Common.{◌≡◌, ℕ, ◌+◌, ◌≤◌, ◌==◌, ◌||◌, inl, inr, true≢false, Bool, true, false, cond, List, [], ◌∷◌, Some, None, map, refl, sym, ap, ◌∙◌, subst, arith}
-use Rattle.std.specs.Prelude.{is_some}
+use Rattle.std.proofs.Common.{◌≡◌, ℕ, zero, suc, ◌+◌, ◌≤◌, ◌==◌, ◌||◌, inl, inr, true≢false, Bool, true, false, cond, List, [], ◌∷◌, Some, None, map, refl, sym, ap, ◌∙◌, subst, arith}
+use Rattle.std.specs.Prelude.{is_some, slice_get}
 use Rattle.std.proofs.lemmas.Bool.{eqb-true, eq-eqb}
 use Rattle.signal_model.specs.Signals.{Signals, Computed, Stands, IsGone, IsCell, IsComputed, is_in, is_computed, standing}
 use Rattle.signal_model.specs.Memos.{Source, Memos}
 use Rattle.signal_model.specs.Marks.{mark_of}
-use Rattle.signal_model.proofs.Shared.{or_left, stands-computed, tested}
+use Rattle.signal_model.proofs.Shared.{or_left, or_right, stands-computed, tested}
 use Rattle.signal_laws.proofs.Shared.{in_append}
 use Rattle.sig_computed.specs.Steps.{LookedAt, Move, Needs, Stops, decided, is_ready, looked}
 use Rattle.sig_computed.specs.Skips.{clean_among, compare_steps, is_clean, look_steps, passed_over, source_steps}
@@ -18,6 +18,13 @@ use Rattle.sig_nodes.specs.Looks.{look_here}
 use Rattle.sig_nodes.specs.States as states
 use Rattle.sig_nodes.specs.States.{Progress, progress_at}
 use Rattle.sig_computed.specs.Views.{first_moved, first_name, evaluating, passing, Stays}
+
+-- what stands at a place is among the others
+pub in_at : (ns : List ℕ) (i n : ℕ) → slice_get ns i ≡ Some n → is_in n ns ≡ true
+in_at [] zero n e = cc
+in_at [] (suc i) n e = cc
+in_at (m ∷ ms) zero n e = let q : n ≡ m = cc in ap (λ b. b || is_in n ms) (eq-eqb n m q)
+in_at (m ∷ ms) (suc i) n e = or_right (n == m) (is_in n ms) (in_at ms i n e)
 
 module _ (w : Signals) (k : Memos) (evaluating over visited : List ℕ) (cycle : Bool) (place : ℕ) where
   -- no source is left

@@ -48,7 +48,7 @@ fn opened(alloc: Global, graph: &mut Graph, id: NodeId) -> Open
 fn names(alloc: Global, reads: &[Read]) -> Result<Vec<NodeId>, NoMemory>
     ensures { IfOk result (λ v. v.items ≡ names_of (map seen_of reads.now)) }
 {
-    let mut all = Vec::new(alloc);
+    let mut all = Vec::with_capacity(alloc, reads.len())?;
     for read in reads {
         all.push(read.id)?;
     }

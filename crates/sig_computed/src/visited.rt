@@ -1,5 +1,5 @@
 // Which computeds a call of settling has visited.
-ghost use Rattle.std.specs.Prelude.{◌≡◌, ℕ, ◌∷◌, [], OnOk};
+ghost use Rattle.std.specs.Prelude.{◌≡◌, ℕ, ◌∷◌, [], true, OnOk};
 ghost use Rattle.signal_model.specs.Signals.{is_in};
 
 use indexmap::IndexSet;
@@ -21,6 +21,16 @@ impl Model for Visited {
     ghost view = { λ v. v.ids.keys };
 }
 
+// Whether a computed was put in last, which is told without a hash: what was settled just now is mostly what is asked for next.
+fn is_last(ids: &IndexSet<NodeId>, id: NodeId) -> bool
+    ensures { result ≡ true → is_in id ids.now.keys ≡ true }
+{
+    match ids.as_slice().last() {
+        Some(last) => *last == id,
+        None => false,
+    }
+}
+
 impl Visited {
     /// None.
     pub(crate) fn new(alloc: Global) -> Visited
@@ -35,6 +45,9 @@ impl Visited {
     pub(crate) fn has(&self, id: NodeId) -> bool
         ensures { result ≡ is_in id self.now }
     {
+        if is_last(&self.ids, id) {
+            return true;
+        }
         self.ids.contains(&id)
     }
 
