@@ -1,7 +1,7 @@
 -- Blocks, by the lines that are held.
 use Rattle.std.proofs.Common.{◌≡◌, ◌<◌, Bool, true, Some, List, [], ◌∷◌, ◌++◌, length, map, refl, sym, arith}
 use Rattle.std.specs.List.{All}
-use Rattle.std.proofs.lemmas.List.Elements.{All-head, All-pop, All-same, All-tail}
+use Rattle.std.proofs.lemmas.List.Elements.{All-pop, All-same}
 use Rattle.script_lines.specs.declared.line.NumberedLine as held
 use Rattle.script_lines.specs.Views.{line_of}
 use Rattle.live_cmd.specs.declared.contents.Content.{Content}
@@ -13,12 +13,9 @@ use Rattle.live_cmd.specs.Grammar.{Writes}
 use Rattle.live_cmd.proofs.Ends.{parted_map}
 use Rattle.live_cmd.proofs.Blocks.{no_block, too_few}
 
--- what holds of all holds of the first, of those behind it, and of the last
-pub all_parted : {A : Type 0} (P : A → Type 0) (xs : List A) (x : A) (ys : List A) (y : A) → xs ≡ x ∷ (ys ++ y ∷ []) → All P xs → P x × All P ys × P y
-all_parted P xs x ys y e h =
-    let whole : All P (x ∷ (ys ++ y ∷ [])) = All-same P (x ∷ (ys ++ y ∷ [])) xs (sym e) h in
-    let rest = All-pop P (ys ++ y ∷ []) ys (Some y) refl (All-tail P x (ys ++ y ∷ []) whole) in
-    (All-head P x (ys ++ y ∷ []) whole, rest.0, rest.1)
+-- what holds of all holds of those before the last, and of the last
+pub all_parted : {A : Type 0} (P : A → Type 0) (xs ys : List A) (y : A) → xs ≡ ys ++ y ∷ [] → All P xs → All P ys × P y
+all_parted P xs ys y e h = All-pop P (ys ++ y ∷ []) ys (Some y) refl (All-same P (ys ++ y ∷ []) xs (sym e) h)
 
 -- fewer than two lines are none
 pub none_held : (ls : List held.NumberedLine) → length ls < 2 → Block (map line_of ls) → ⊥

@@ -7,7 +7,6 @@ mod Held
 mod Items
 mod Lengths
 mod Heads
-mod NameBytes
 mod Numbers
 mod Blocks
 mod Plain

@@ -61,7 +61,8 @@ last_has : (l : NumberedLine) (ls : List NumberedLine) → HasNumber (l ∷ ls) 
 last_has l [] = has_first l [] l.0 refl
 last_has l (m ∷ ls) = has_later l (m ∷ ls) (last_number (m ∷ ls)) (last_has m ls)
 
-last_is : (ls : List NumberedLine) → IsNumber ls (last_number ls)
+-- the number of the last line is one of them
+pub last_is : (ls : List NumberedLine) → IsNumber ls (last_number ls)
 last_is [] = inr refl
 last_is (l ∷ ls) = inl (last_has l ls)
 

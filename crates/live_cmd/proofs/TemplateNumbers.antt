@@ -15,20 +15,12 @@ use Rattle.tpl_syntax.specs.Templates.{Answer, IsFaulty, IsRead, Refuses, Say, S
 use Rattle.live_cmd.specs.declared.contents.Content.{Content}
 use Rattle.live_cmd.specs.Blocks.{is_want, template_content, template_refused}
 use Rattle.live_cmd.specs.Views.{number_in}
-use Rattle.live_cmd.proofs.Numbers.{HasNumber, IsNumber, either_some, has_first, has_later, number_is}
+use Rattle.live_cmd.proofs.Numbers.{HasNumber, IsNumber, either_some, has_first, has_later, last_is, number_is}
 
 faulty_number : (p : Place) (ls : List NumberedLine) (k : ℕ) → IsFaulty p ls k → HasNumber ls k
 faulty_number p [] k f = absurd f
 faulty_number p (l ∷ ls) k (inl f) = has_first l ls k f.0
 faulty_number p (l ∷ ls) k (inr f) = has_later l ls k (faulty_number (moved p (said_line f.0)) ls k f.3)
-
-last_has : (l : NumberedLine) (ls : List NumberedLine) → HasNumber (l ∷ ls) (last_number (l ∷ ls))
-last_has l [] = has_first l [] l.0 refl
-last_has l (m ∷ ls) = has_later l (m ∷ ls) (last_number (m ∷ ls)) (last_has m ls)
-
-last_is : (ls : List NumberedLine) → IsNumber ls (last_number ls)
-last_is [] = inr refl
-last_is (l ∷ ls) = inl (last_has l ls)
 
 at_number : (k : ℕ) (o : Option TemplateWhy) (f : TemplateFault) → option_map (fault_at k) o ≡ Some f → f.at ≡ k
 at_number k None f e = absurd cc

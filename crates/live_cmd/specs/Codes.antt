@@ -85,10 +85,12 @@ stated_code =
 
 -- ---- rewirings
 
+-- a source as it is stored
 abbrev source_part : Source → Tree ⊎ ℕ
 source_part (formula t) = inl t
 source_part (host k) = inr k
 
+-- the source that is stored so
 abbrev source_from : Tree ⊎ ℕ → Source
 source_from (inl t) = formula t
 source_from (inr k) = host k

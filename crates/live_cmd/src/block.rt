@@ -129,21 +129,6 @@ fn block_item(ends: bool, number: u32, content: Box<Content>) -> Item
     }
 }
 
-// The first line, those behind it, and the last.
-fn parted<'a, 'b>(
-    lines: &'b [NumberedLine<'a>],
-) -> Option<(NumberedLine<'a>, &'b [NumberedLine<'a>], NumberedLine<'a>)>
-    ensures { MatchOption result (length lines.now < 2) (λ x. lines.now ≡ x.0 ∷ (x.1.now ++ (x.2 ∷ []))) }
-{
-    let Some((first, rest)) = lines.split_first() else {
-        return None;
-    };
-    let Some((last, inner)) = rest.split_last() else {
-        return None;
-    };
-    Some((*first, inner, *last))
-}
-
 // What stands in a block, behind a pointer.
 fn content_held(alloc: Global, head: Head, lines: &[NumberedLine]) -> Result<Box<Content>, NoMemory>
     requires { All (λ l. length l.text.now ≤ MOST_LINE) lines.now }
@@ -154,14 +139,31 @@ fn content_held(alloc: Global, head: Head, lines: &[NumberedLine]) -> Result<Box
     Ok(held)
 }
 
+// The lines before the last, and the last.
+fn parted<'a, 'b>(
+    lines: &'b [NumberedLine<'a>],
+) -> Option<(&'b [NumberedLine<'a>], NumberedLine<'a>)>
+    ensures { MatchOption result (length lines.now < 1) (λ x. lines.now ≡ x.0.now ++ (x.1 ∷ [])) }
+{
+    let Some((last, inner)) = lines.split_last() else {
+        return None;
+    };
+    Some((inner, *last))
+}
+
 /// What lines are whose first says what begins a block with a grammar of its own; `None` exactly where it doesn't, or no line stands behind
 /// it.
-pub fn block_of(alloc: Global, lines: &[NumberedLine]) -> Result<Option<Item>, NoMemory>
-    requires { All (λ l. length l.text.now ≤ MOST_LINE) lines.now }
-    ensures { IfOk result (λ found. MatchOption found (Block (map line_of lines.now) → ⊥)
-        (λ i. (b : Block (map line_of lines.now)) × (c : Content) × IsContent b.head b.inner c × (i ≡ block_item b.ends b.last.0 c))) }
+pub fn block_of(
+    alloc: Global,
+    first: NumberedLine,
+    others: &[NumberedLine],
+) -> Result<Option<Item>, NoMemory>
+    requires first { length first.text.now ≤ MOST_LINE }
+    requires others { All (λ l. length l.text.now ≤ MOST_LINE) others.now }
+    ensures { IfOk result (λ found. MatchOption found (Block (line_of first.entry ∷ map line_of others.now) → ⊥)
+        (λ i. (b : Block (line_of first.entry ∷ map line_of others.now)) × (c : Content) × IsContent b.head b.inner c × (i ≡ block_item b.ends b.last.0 c))) }
 {
-    let Some((first, inner, last)) = parted(lines) else {
+    let Some((inner, last)) = parted(others) else {
         return Ok(None);
     };
     let ends = is_end(alloc, last.text)?;

@@ -1,13 +1,14 @@
 // Commands and the items of a script.
-ghost use Rattle.std.specs.Prelude.{◌≡◌, map};
+ghost use Rattle.std.specs.Prelude.{◌≡◌, map, IfOk};
 ghost use Rattle.live_cmd.specs.Words.{bare_of, bare_word, found, verb_of, verb_word};
 ghost use Rattle.sig_untrack.specs.Stated.{before, no_bodies};
 
 use formula_text::Wired;
 use line_forms::NameList;
 use live_entries::Refusal;
-use sig_base::{Name, Scalar, Scalars, Text};
+use sig_base::{Name, NoMemory, Scalar, Scalars, Text};
 use sig_untrack::Body;
+use std::alloc::Global;
 use std::marker::Model;
 use tpl_syntax::Template;
 
@@ -15,7 +16,7 @@ use tpl_syntax::Template;
 /// formulas, the bodies of its nested effects, and its rewirings.
 #[derive(Drop)]
 pub struct EffectBody {
-    body: Body,
+    body: Box<Body>,
 }
 
 impl Model for EffectBody {
@@ -26,15 +27,20 @@ impl Model for EffectBody {
 
     ghost coded = { bodies_code };
 
-    ghost view = { λ e. before e.body no_bodies };
+    ghost view = { λ e. before e.body.value no_bodies };
 }
 
 impl EffectBody {
-    /// This body.
-    pub fn of(body: Body) -> EffectBody
-        ensures { result ≡ before body no_bodies }
+    /// This body, behind a pointer, so that other commands don't grow by it.
+    ///
+    /// # Errors
+    ///
+    /// `NoMemory` where it finds no room.
+    pub fn of(alloc: Global, body: Body) -> Result<EffectBody, NoMemory>
+        ensures { IfOk result (λ e. e ≡ before body no_bodies) }
     {
-        EffectBody { body }
+        let body = Box::new(alloc, body)?;
+        Ok(EffectBody { body })
     }
 
     /// The body.
@@ -48,7 +54,7 @@ impl EffectBody {
     pub fn into_body(self) -> Body
         ensures { before result no_bodies ≡ self }
     {
-        self.body
+        Box::into_inner(self.body)
     }
 }
 

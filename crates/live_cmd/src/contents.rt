@@ -74,11 +74,10 @@ fn effect_content(
     ensures { IfOk result (λ c. IsContent (said_head (heads.Effect name inside)) (map line_of lines.now) c) }
 {
     match body_text::read_numbered(alloc, lines, Allowance::effect()) {
-        Ok(body) => Ok(Content::Makes(Command::Effect {
-            name,
-            body: EffectBody::of(body),
-            inside,
-        })),
+        Ok(read) => {
+            let body = EffectBody::of(alloc, read)?;
+            Ok(Content::Makes(Command::Effect { name, body, inside }))
+        }
         Err(fault) => {
             let content = body_refused(number_at(lines, fault.at), fault.why)?;
             Ok(content)
@@ -98,12 +97,15 @@ fn handler_content(
     ensures { IfOk result (λ c. IsContent (said_head (heads.On template place event)) (map line_of lines.now) c) }
 {
     match body_text::read_numbered(alloc, lines, Allowance::handler()) {
-        Ok(body) => Ok(Content::Makes(Command::On {
-            template,
-            place,
-            event,
-            body: EffectBody::of(body),
-        })),
+        Ok(read) => {
+            let body = EffectBody::of(alloc, read)?;
+            Ok(Content::Makes(Command::On {
+                template,
+                place,
+                event,
+                body,
+            }))
+        }
         Err(fault) => {
             let content = body_refused(number_at(lines, fault.at), fault.why)?;
             Ok(content)

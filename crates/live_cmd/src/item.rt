@@ -1,10 +1,10 @@
 // Reads the items of a script.
-ghost use Rattle.std.specs.Prelude.{◌≡◌, ◌∷◌, ◌+◌, ◌-◌, ◌^◌, ◌<◌, ◌≤◌, [], false, length, drop, All, Ok, IfOk, IfSome, MatchOption, IsTrue, map, nat_lt};
+ghost use Rattle.std.specs.Prelude.{◌≡◌, ◌+◌, ◌-◌, ◌^◌, ◌<◌, ◌≤◌, [], false, length, drop, Ok, IfOk, IfSome, MatchOption, IsTrue, nat_lt};
 ghost use Rattle.std.specs.List.{list_any};
 ghost use Rattle.script_lines.specs.Pieces.{pieces_of};
 ghost use Rattle.script_lines.specs.Views.{line_of, piece_of};
 ghost use Rattle.live_cmd.specs.Grammar.{Said, Writes};
-ghost use Rattle.live_cmd.specs.Items.{command_of, first_line, is_alone, item_or, Begins, IsItem, IsNoCommand};
+ghost use Rattle.live_cmd.specs.Items.{any_long, command_of, is_alone, item_or, Begins, IsItem, IsNoCommand};
 ghost use Rattle.live_cmd.specs.Views.{found_of, item_read, many_told, IsPlain};
 
 use crate::block::block_of;
@@ -89,41 +89,37 @@ fn plain_item(alloc: Global, line: NumberedLine) -> Result<Item, NoMemory>
     Ok(found_item(line.number, found))
 }
 
-// The first of lines, and one without a byte where there is none.
-fn first_line<'a>(lines: &[NumberedLine<'a>]) -> NumberedLine<'a>
-    ensures { line_of result ≡ first_line (map line_of lines.now) }
-{
-    match lines.first() {
-        Some(line) => *line,
-        None => NumberedLine {
-            number: 0,
-            text: b"",
-        },
-    }
-}
-
-// Whether a line has more than `MOST_LINE` bytes.
+// Whether one of lines has more than `MOST_LINE` bytes.
 fn any_long(lines: &[NumberedLine]) -> bool
     ensures { result ≡ list_any (λ l. nat_lt MOST_LINE (length l.text.now)) lines.now }
 {
     lines.iter().any(|line| MOST_LINE < line.text.len())
 }
 
+// Whether a line of a piece has.
+fn has_long(piece: &Piece) -> bool
+    ensures { result ≡ any_long (piece_of piece.now).lines }
+{
+    if MOST_LINE < piece.first.text.len() {
+        return true;
+    }
+    any_long(&piece.others)
+}
+
 // What a piece of a script is.
 fn item_of(alloc: Global, piece: &Piece) -> Result<Item, NoMemory>
     ensures { IfOk result (λ i. IsItem (piece_of piece.now) i) }
 {
-    if any_long(&piece.lines) {
+    if has_long(piece) {
         return Ok(Item::Refused(Refusal::Limit(LimitWord::Line)));
     }
-    let first = first_line(&piece.lines);
     if !piece.ended {
-        return Ok(Item::Refused(Refusal::Syntax(first.number)));
+        return Ok(Item::Refused(Refusal::Syntax(piece.first.number)));
     }
-    if let Some(item) = block_of(alloc, &piece.lines)? {
+    if let Some(item) = block_of(alloc, piece.first, &piece.others)? {
         return Ok(item);
     }
-    let item = plain_item(alloc, first)?;
+    let item = plain_item(alloc, piece.first)?;
     Ok(item)
 }
 

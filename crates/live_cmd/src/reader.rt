@@ -22,8 +22,8 @@ use crate::watchers::{any_watcher, unwatch, watch};
 use crate::{Bare, Command, Line, Verb};
 use formula_text::Allow;
 use line_forms::{
-    NotThere, ToldValue, Unread, count_at, count_behind, ends_at, first_word, optional, symbol_at,
-    tag_at, value_at,
+    NotThere, ToldValue, Unread, count_at, count_behind, ends_at, first_word, name_at, optional,
+    symbol_at, tag_at, value_at,
 };
 use sig_base::{MOST_LINE, Name, NoMemory, Text};
 use sig_words::{LineFault, Token, tokens};
@@ -35,12 +35,12 @@ pub const TRACKED: Allow = Allow {
     untrack: false,
 };
 
-// A verb and a name.
+// A verb and a name. The name is made at once, so that it is judged once.
 fn named(alloc: Global, line: &[u8], tokens: &[Token], verb: Verb) -> Result<Found, Unread>
     ensures { IfRead result (λ found. found ≡ found_as (rows.verb verb) (ahead line.now tokens.now 1)) }
 {
-    let name = name_text_last(line, tokens, 1)?;
-    let name = made(alloc, name)?;
+    let (name, at) = name_at(alloc, line, tokens, 1)?;
+    ends_at(tokens, at)?;
     Ok(alone(Command::Named { verb, name }))
 }
 
@@ -104,14 +104,13 @@ fn set_found(name: Name, value: ToldValue) -> Found
     }
 }
 
-// `set N LIT`
+// `set N LIT`. Here too the name is judged once.
 fn set(alloc: Global, line: &[u8], tokens: &[Token]) -> Result<Found, Unread>
     requires { AreTokens line.now tokens.now }
     ensures { IfRead result (λ found. found ≡ found_as rows.set (ahead line.now tokens.now 1)) }
 {
-    let (name, at) = name_text_at(line, tokens, 1)?;
+    let (name, at) = name_at(alloc, line, tokens, 1)?;
     let value = value_last(alloc, line, tokens, at)?;
-    let name = made(alloc, name)?;
     Ok(set_found(name, value))
 }
 
@@ -264,11 +263,14 @@ fn behind_other_word(
     }
 }
 
-// What the tokens behind a first word say.
+// What the tokens behind a first word say. The commonest is looked at before all others.
 fn behind_word(alloc: Global, line: &[u8], tokens: &[Token], word: &str) -> Result<Found, Unread>
     requires { AreTokens line.now tokens.now }
     ensures { IfRead result (λ found. found ≡ found_first (rows_of word.now table) (ahead line.now tokens.now 1)) }
 {
+    if word == "set" {
+        return set(alloc, line, tokens);
+    }
     match Verb::of(word) {
         Some(verb) => named(alloc, line, tokens, verb),
         None => behind_other_word(alloc, line, tokens, word),

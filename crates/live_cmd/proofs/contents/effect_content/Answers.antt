@@ -9,9 +9,9 @@ use Rattle.live_cmd.specs.Blocks.{effect_of}
 use Rattle.live_cmd.proofs.Numbers.{refused_by}
 use Rattle.live_cmd.proofs.contents.effect_content.Goals as goal
 
-pub returns-in-Ok : goal.returns-in-Ok
-returns-in-Ok c =
-    (Ok (before c.in-Ok.body no_bodies), rw c.effect.ensures at c.in-Ok.ensures.ok, ap (λ (b : Bodies). content.Makes (command.Effect c.args.name b c.args.inside)) c.of.ensures)
+pub returns-in_ok-body-in-Ok : goal.returns-in_ok-body-in-Ok
+returns-in_ok-body-in-Ok c =
+    (Ok (before c.in-Ok.read no_bodies), rw c.effect.ensures at c.in-Ok.ensures.ok, ap (λ (b : Bodies). content.Makes (command.Effect c.args.name b c.args.inside)) c.in_ok-body-in-Ok.ensures)
 
 pub returns-in_ok-content-in-Err : goal.returns-in_ok-content-in-Err
 returns-in_ok-content-in-Err c =

@@ -9,9 +9,9 @@ use Rattle.live_cmd.specs.Blocks.{handler_of}
 use Rattle.live_cmd.proofs.Numbers.{refused_by}
 use Rattle.live_cmd.proofs.contents.handler_content.Goals as goal
 
-pub returns-in-Ok : goal.returns-in-Ok
-returns-in-Ok c =
-    (Ok (before c.in-Ok.body no_bodies), rw c.handler.ensures at c.in-Ok.ensures.ok, ap (λ (b : Bodies). content.Makes (command.On c.args.template c.args.place c.args.event b)) c.of.ensures)
+pub returns-in_ok-body-in-Ok : goal.returns-in_ok-body-in-Ok
+returns-in_ok-body-in-Ok c =
+    (Ok (before c.in-Ok.read no_bodies), rw c.handler.ensures at c.in-Ok.ensures.ok, ap (λ (b : Bodies). content.Makes (command.On c.args.template c.args.place c.args.event b)) c.in_ok-body-in-Ok.ensures)
 
 pub returns-in_ok-content-in-Err : goal.returns-in_ok-content-in-Err
 returns-in_ok-content-in-Err c =

@@ -1,5 +1,5 @@
 use Rattle.std.proofs.Common.{sym}
-use Rattle.live_cmd.proofs.NameBytes.{name_utf8}
+use Rattle.formula_text.proofs.Shared.{name_utf8}
 use Rattle.live_cmd.proofs.names.name_text.Goals as goal
 
 pub unreachable-requires : goal.unreachable-requires
