@@ -112,13 +112,3 @@ deep_text d n t = ap (first_deep d) (tree_text n t)
 pub deep_element : (d n : ℕ) (name attributes subs : _) → first_deep d (sub_tree (sub.Element n name attributes subs)) ≡ (if ltb 32 d then Some n else first_deep (suc d) (side_by_side (map sub_tree subs.items)))
 deep_element d n name attributes subs =
     ap (first_deep d) (tree_element n name attributes subs) ∙ ap (λ o. if ltb 32 d then Some n else o) (or_nothing (first_deep (suc d) (side_by_side (map sub_tree subs.items))))
-
--- ---- outputs
-
--- one piece more at the end of an output
-pub step_out : {A : Type 0} (o o' a b w z : List A) → o' ≡ o ++ a → w ≡ a ++ b → o ++ w ≡ z → o' ++ b ≡ z
-step_out o o' a b w z e f g = ap (λ zs. zs ++ b) e ∙ (append_assoc o a b ∙ (ap (λ zs. o ++ zs) (sym f) ∙ g))
-
--- the end of an output
-pub last_out : {A : Type 0} (o w z : List A) → w ≡ [] → o ++ w ≡ z → o ≡ z
-last_out o w z e g = sym (append-nil o) ∙ (ap (λ zs. o ++ zs) (sym e) ∙ g)

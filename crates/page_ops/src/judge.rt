@@ -69,7 +69,7 @@ fn judge_remove(tree: &Tree, id: u64) -> Option<ApplyFault>
 fn judge_move(tree: &Tree, id: u64, place: u64) -> Option<ApplyFault>
     ensures { Judges result (replay.do_op (replay.OpMove id place) tree.now) }
 {
-    let Some((parent, _)) = tree.place_of(id) else {
+    let Some(parent) = tree.parent_of(id) else {
         return Some(ApplyFault::NoSuchNode(id));
     };
     if place < children(tree, parent) {

@@ -1,9 +1,10 @@
 use Rattle.std.proofs.Common.{◌≡◌, ◌+◌, ◌++◌, ℕ, List, [], ◌∷◌, sym, ap, ◌∙◌, drop, map, append_assoc}
 use Rattle.std.proofs.lemmas.List.{drop_more, drop_all}
+use Rattle.page_tree.proofs.Shared.{last_out, step_out}
 use Rattle.page_model.specs.Forest.{keys}
 use Rattle.page_tree.specs.declared.sub.Sub.{Sub}
 use Rattle.page_tree.specs.Subs.{side_by_side, sub_tree}
-use Rattle.page_ops.proofs.Subtrees.{keys_cons, keys_element, keys_text, last_out, step_out}
+use Rattle.page_ops.proofs.Subtrees.{keys_cons, keys_element, keys_text}
 use Rattle.page_ops.proofs.numbers.+put_numbers.Goals as goal
 
 pub loop-sub-preserved : goal.loop-sub-preserved

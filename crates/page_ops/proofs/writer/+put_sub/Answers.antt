@@ -5,8 +5,7 @@ use Rattle.std.proofs.Common.{arith}
 use Rattle.page_model.specs.Texts.{AreSized, HaveTexts, written_nodes}
 use Rattle.page_tree.specs.declared.sub.Sub.{Sub}
 use Rattle.page_tree.specs.Subs.{side_by_side, sub_tree}
-use Rattle.page_tree.proofs.Shared.{tree_element, tree_text}
-use Rattle.page_ops.proofs.Subtrees.{last_out, step_out}
+use Rattle.page_tree.proofs.Shared.{tree_element, tree_text, last_out, step_out}
 use Rattle.page_ops.proofs.Written.{closed, element_parts, sized_after, written_cons, written_text}
 use Rattle.page_ops.specs.Ops.{opened}
 use Rattle.page_ops.proofs.writer.+put_sub.Goals as goal
