@@ -38,7 +38,8 @@ unbegun d = record { decoding = d; pages = [] }
 
 -- These notes of a stream have a fault, or it comes behind them: one is refused, or the next frame is whole and no note's.
 abbrev pub HasFault : List ℕ → List Note → List Mounted → Type 0
-HasFault stream notes pages = SpellsUpTo stream notes (length (frames notes)) ⊎ ((rest : List ℕ) × Spells stream notes rest × ((follow notes pages).refused ≡ true))
+HasFault stream notes pages =
+    SpellsUpTo stream notes (length (frames notes)) ⊎ ((rest : List ℕ) × Spells stream notes rest × ((follow notes pages).refused ≡ true))
 
 -- What was left of the stream and the piece spell notes, which are taken, and less than a whole frame is left.
 pub record Passes (old : Streaming) (piece before after : List ℕ) (new : Streaming) : Type 0 where

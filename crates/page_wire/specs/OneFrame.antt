@@ -40,5 +40,5 @@ GoesOn = (stream piece : List ℕ) (notes more : List Note) (rest left : List �
 
 -- or stop to, so many bytes further on
 abbrev pub StopsLater : Type 0
-StopsLater = (stream piece : List ℕ) (notes more : List Note) (rest : List ℕ) (at : ℕ) → Spells stream notes rest → SpellsUpTo (rest ++ piece) more at →
-    SpellsUpTo (stream ++ piece) (notes ++ more) (length (frames notes) + at)
+StopsLater = (stream piece : List ℕ) (notes more : List Note) (rest : List ℕ) (at : ℕ) → Spells stream notes rest →
+    SpellsUpTo (rest ++ piece) more at → SpellsUpTo (stream ++ piece) (notes ++ more) (length (frames notes) + at)
