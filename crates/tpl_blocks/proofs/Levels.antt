@@ -2,10 +2,11 @@
 use Rattle.std.proofs.Common.{◌≡◌, ℕ, zero, suc, ◌+◌, ◌≤◌, Bool, true, false, List, [], ◌∷◌, ◌++◌, map, drop, length, Option, Some, None, Ok, refl, sym, ap, subst, arith}
 use Rattle.std.specs.Prelude.{◌&&◌, not, ◌==◌, option_map, if◌then◌else◌, nat_le, nat_lt}
 use Rattle.std.specs.List.{list_any}
-use Rattle.std.specs.Option.{option_or}
 use Rattle.std.specs.Str.{bytes_eq}
 use Rattle.std.proofs.lemmas.Bool.{and_from, eqb-true, le-leb, ltb-false, or_parts, not-true}
+use Rattle.formula_text.proofs.Shared.{neither}
 use Rattle.page_model.proofs.Shared.{other_way}
+use Rattle.tpl_syntax.proofs.Shared.{no_why}
 use Rattle.sig_base.specs.declared.limits.TheConstants.{MOST_TAG}
 use Rattle.sig_base.specs.Words.{is_tag}
 use Rattle.sig_formula.specs.Trees.{Tree}
@@ -19,7 +20,6 @@ use Rattle.page_model.specs.Labels.{Distinct, GoodNames, named}
 use Rattle.tpl_model.specs.Lines as model
 use Rattle.tpl_model.specs.Laws.{Fits, IsTemplate}
 use Rattle.tpl_syntax.specs.declared.fault.TemplateFault.{TemplateFault}
-use Rattle.tpl_syntax.specs.declared.fault.TemplateWhy.{TemplateWhy}
 use Rattle.tpl_syntax.specs.declared.fault.TemplateWhy.TheVariants as why
 use Rattle.tpl_syntax.specs.declared.line.Line.{Line}
 use Rattle.tpl_syntax.specs.declared.line.Line.TheVariants as line
@@ -259,14 +259,6 @@ good_said bytes grammar.attr a w =
 good_said bytes _ a w = tt
 
 -- ---- all lines
-
-neither : {A : Type 0} (o p : Option A) → option_or o p ≡ None → (o ≡ None) × (p ≡ None)
-neither None p e = (refl, e)
-neither (Some x) p e = absurd cc
-
-no_why : (k : ℕ) (o : Option TemplateWhy) → option_map (fault_at k) o ≡ None → o ≡ None
-no_why k None e = refl
-no_why k (Some w) e = absurd cc
 
 not_so : {A : Type 0} (b : Bool) (x : A) (o : Option A) → (if b then Some x else o) ≡ None → b ≡ false
 not_so true x o e = absurd cc
