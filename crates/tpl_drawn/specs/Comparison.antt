@@ -98,19 +98,20 @@ marked_by mark part known k (text n f rest) (line h r) c =
     (λ same inside later. mark same true (known (address n k)) (Text (node_text h.outcome)) [] [] ++ marked_by mark part known k rest r later) c
 marked_by mark part known k (tag n name xs inner rest) (element hs i r) c =
     marks_by (map part (marks_in known (nodes k (tag n name xs inner rest) (element hs i r))))
-    (λ same inside later. mark same (keeps_nodes inner (first_in inside)) (known (address n k)) (Element name (values xs hs)) (children_in known (nodes k inner i))
-    (marked_by mark part known k inner i (first_in inside)) ++ marked_by mark part known k rest r later) c
+    (λ same inside later. mark same (keeps_nodes inner (first_in inside)) (known (address n k)) (Element name (values xs hs))
+    (children_in known (nodes k inner i)) (marked_by mark part known k inner i (first_in inside)) ++ marked_by mark part known k rest r later) c
 marked_by mark part known k (choice f one other rest) (branch h i r) c =
     marks_by (map part (marks_in known (nodes k (choice f one other rest) (branch h i r))))
-    (λ same inside later. picks h.outcome (marked_by mark part known k one i (first_in inside)) (marked_by mark part known k other i (first_in inside)) []
-    ++ marked_by mark part known k rest r later) c
+    (λ same inside later. picks h.outcome (marked_by mark part known k one i (first_in inside))
+    (marked_by mark part known k other i (first_in inside)) [] ++ marked_by mark part known k rest r later) c
 marked_by mark part known k (each f inner rest) (loop h i r) c =
     marks_by (map part (marks_in known (nodes k (each f inner rest) (loop h i r))))
     (λ same inside later. row_marks (λ (here : Here) (m : PageMemo) (d : Change). marked_by mark part known (Some here.key) inner m d) i inside
     ++ marked_by mark part known k rest r later) c
 marked_by mark part known k (attempt first second rest) (either a b r) c =
     marks_by (map part (marks_in known (nodes k (attempt first second rest) (either a b r))))
-    (λ same inside later. tried_marks part known same (part_shown b (nodes k first a) (nodes k second b)) ++ marked_by mark part known k rest r later) c
+    (λ same inside later. tried_marks part known same (part_shown b (nodes k first a) (nodes k second b))
+    ++ marked_by mark part known k rest r later) c
 marked_by mark part known k b m c = []
 
 -- the nodes whose children may differ, the root behind those below it

@@ -78,7 +78,8 @@ abbrev pub of_text : (ℕ → Option ℕ) → (same : Bool) → Forest Look → 
 of_text known same shape = record { children = children_in known shape; touched = []; restated = if same then [] else marks_in known shape }
 
 -- the marks of an element that was heard again, of this number and look, and of what is inside it
-abbrev pub marks_of : Marking → (Marked → Marked) → (ℕ → Option ℕ) → Option (List ℕ) → (same : Bool) → Option ℕ → Look → Block → PageMemo → Change → List Marked
+abbrev pub marks_of : Marking → (Marked → Marked) → (ℕ → Option ℕ) → Option (List ℕ) → (same : Bool) → Option ℕ → Look → Block → PageMemo → Change →
+    List Marked
 marks_of mark part known k same n x inner i inside =
     mark same (keeps_nodes inner (first_in inside)) n x (children_in known (nodes k inner i)) (marked_by mark part known k inner i (first_in inside))
 

@@ -2,7 +2,7 @@
 use Rattle.std.proofs.Common.{◌≡◌, List, [], ◌∷◌, ◌++◌, map, ap}
 use Rattle.tpl_model.specs.ShownNodes.Shapes.{Marked}
 use Rattle.tpl_drawn.specs.Comparison.{restated_part, touched_part}
-use Rattle.tpl_drawn.proofs.Compares.Siblings.{last_out, step_out}
+use Rattle.page_tree.proofs.Shared.{last_out, step_out}
 
 -- marks that are left; with these all come
 pub record AreLeft (left all touched restated first_touched first_restated : List Marked) : Type 0 where

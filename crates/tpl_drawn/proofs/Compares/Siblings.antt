@@ -1,5 +1,5 @@
 -- Children that are put one after the other.
-use Rattle.std.proofs.Common.{◌≡◌, ℕ, Bool, true, false, Option, Some, None, List, [], ◌∷◌, ◌++◌, append_assoc, append-nil, length, refl, sym, ap, ◌∙◌, arith}
+use Rattle.std.proofs.Common.{◌≡◌, ℕ, Bool, true, false, Option, Some, None, List, [], ◌∷◌, ◌++◌, append_assoc, append-nil, sym, ap, ◌∙◌}
 use Rattle.std.proofs.lemmas.Bool.{false≢true}
 use Rattle.page_model.specs.Forest.{Forest, none, node, after}
 use Rattle.page_model.specs.Labels.{Look, Text}
@@ -13,19 +13,6 @@ use Rattle.tpl_drawn.specs.Shown.{is_line, where_shown}
 use Rattle.tpl_drawn.specs.Heads.{text_at}
 use Rattle.tpl_drawn.specs.Walks.{where_listed}
 use Rattle.tpl_model.specs.PageUpdates.PageMemos.{PageMemo, line}
-
--- one part comes behind those before it
-pub step_out : {B : Type 0} (before now one rest all total : List B) → now ≡ before ++ one → all ≡ one ++ rest → before ++ all ≡ total → now ++ rest ≡ total
-step_out before now one rest all total e f h = ap (λ z. z ++ rest) e ∙ (append_assoc before one rest ∙ (ap (λ z. before ++ z) (sym f) ∙ h))
-
--- nothing is left
-pub last_out : {B : Type 0} (now rest total : List B) → rest ≡ [] → now ++ rest ≡ total → now ≡ total
-last_out now rest total e h = sym (append-nil now) ∙ (ap (λ z. now ++ z) (sym e) ∙ h)
-
--- a list of no items
-pub no_items : {A : Type 0} (xs : List A) (n : ℕ) → n ≡ length xs → n ≡ 0 → xs ≡ []
-no_items [] n e f = refl
-no_items (x ∷ xs) n e f = absurd (omega (arith, e, f))
 
 -- nothing more
 pub no_more : {B : Type 0} (a x : List B) → x ≡ [] → a ≡ a ++ x

@@ -5,7 +5,7 @@ use Rattle.page_model.specs.Labels.{Look}
 use Rattle.tpl_model.specs.ShownNodes.Shapes.{Marked, Next, comes, stays}
 use Rattle.tpl_model.specs.declared.shown.Address.{Address}
 use Rattle.tpl_drawn.specs.Marks.{Knows, children_in, marked_at, marks_in, next_of}
-use Rattle.tpl_drawn.proofs.Numbered.Lists.{last_out, step_out}
+use Rattle.page_tree.proofs.Shared.{last_out, step_out}
 
 pub children_after : (known : ℕ → Option ℕ) (x y : Forest Look) → children_in known (after x y) ≡ children_in known x ++ children_in known y
 children_after known none y = refl

@@ -14,7 +14,7 @@ use Rattle.page_model.specs.Labels.{Look, Text, Element}
 use Rattle.tpl_model.specs.KeptLines.Kept.{kept, rows_from}
 use Rattle.tpl_model.specs.KeptLines.Kept as held_rows
 use Rattle.tpl_model.specs.declared.memo.PageMemo as held
-use Rattle.tpl_model.specs.Lines.{Block, empty, text, tag, choice, each, attempt}
+use Rattle.tpl_model.specs.Lines.{Block, text, tag, choice, each, attempt}
 use Rattle.tpl_model.specs.Shapes.{Here, node_text}
 use Rattle.tpl_drawn.specs.Shown.{attributes_of, fits, inside_of, later_of, part_of, rows_of, shows, shows_part, where_shown}
 use Rattle.tpl_drawn.proofs.Placed.Placed.{picked, tried, unfit_shown}
@@ -22,7 +22,7 @@ use Rattle.tpl_scratch.proofs.Shared.{after_none, after_after}
 use Rattle.tpl_model.specs.ShownNodes.Shapes.{all_shown, shown_tree}
 use Rattle.tpl_model.specs.declared.shown.Shown.{Shown}
 use Rattle.tpl_drawn.specs.Heads.{rows_in, text_at}
-use Rattle.tpl_model.specs.PageUpdates.PageMemos.{PageMemo, blank, line, element, branch, loop, row, either, nodes, part_shown, row_nodes, values}
+use Rattle.tpl_model.specs.PageUpdates.PageMemos.{PageMemo, line, element, branch, loop, row, either, nodes, part_shown, row_nodes, values}
 
 -- ---- one node more
 

@@ -38,7 +38,7 @@ impl PageNodes {
     pub fn line(&self, number: u64) -> Option<usize>
         ensures { result ≡ (if below_root number self.now.tree then line_at self.now.numbers number else None) }
     {
-        self.tree.place_of(number)?;
+        self.tree.parent_of(number)?;
         self.numbers.line(number)
     }
 }

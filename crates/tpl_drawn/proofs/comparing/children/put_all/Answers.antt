@@ -1,7 +1,7 @@
 use Rattle.std.proofs.Common.{◌++◌, [], ◌∷◌, map, ap, ◌∙◌}
 use Rattle.std.proofs.lemmas.List.{map-append}
 use Rattle.tpl_model.specs.ShownNodes.Shapes.{child_of}
-use Rattle.tpl_drawn.proofs.Compares.Siblings.{last_out, no_items, step_out}
+use Rattle.page_tree.proofs.Shared.{last_out, no_items, step_out}
 use Rattle.tpl_drawn.proofs.comparing.children.put_all.Goals as goal
 
 pub loop-child-preserved : goal.loop-child-preserved

@@ -2,7 +2,8 @@ use Rattle.std.proofs.Common.{◌++◌, [], ◌∷◌, None, map, ap, ◌∙◌}
 use Rattle.std.proofs.lemmas.List.{map-append}
 use Rattle.tpl_drawn.specs.Marks.{children_in}
 use Rattle.tpl_model.specs.ShownNodes.Shapes.{all_shown, child_of, comes, shown_tree}
-use Rattle.tpl_drawn.proofs.Compares.Siblings.{all_new, last_out, no_items, step_out}
+use Rattle.page_tree.proofs.Shared.{last_out, no_items, step_out}
+use Rattle.tpl_drawn.proofs.Compares.Siblings.{all_new}
 use Rattle.tpl_drawn.proofs.comparing.children.put_new.Goals as goal
 
 pub loop-node-preserved : goal.loop-node-preserved

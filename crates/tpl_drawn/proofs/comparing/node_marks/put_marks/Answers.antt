@@ -1,7 +1,7 @@
 use Rattle.std.proofs.Common.{◌++◌, map, refl, ap, ◌∙◌}
 use Rattle.tpl_drawn.specs.Comparison.{restated_part, touched_part}
 use Rattle.tpl_model.specs.ShownNodes.Shapes.{mark_of}
-use Rattle.tpl_drawn.proofs.Compares.Siblings.{no_items}
+use Rattle.page_tree.proofs.Shared.{no_items}
 use Rattle.tpl_drawn.proofs.Compares.Marks.{all_split, one_split}
 use Rattle.tpl_drawn.proofs.comparing.node_marks.put_marks.Goals as goal
 

@@ -3,7 +3,7 @@ use Rattle.tpl_model.specs.ShownNodes.Addresses.{address_of}
 use Rattle.tpl_model.specs.ShownNodes.Shapes.{child_of}
 use Rattle.tpl_drawn.specs.Addresses.{coming_in}
 use Rattle.tpl_drawn.proofs.Numbered.Children.{first_comes}
-use Rattle.tpl_drawn.proofs.Numbered.Lists.{last_out, no_items, step_out}
+use Rattle.page_tree.proofs.Shared.{last_out, no_items, step_out}
 use Rattle.tpl_drawn.proofs.marks.arrivals.put_children.Goals as goal
 
 pub loop-child-preserved : goal.loop-child-preserved

@@ -2,7 +2,7 @@ use Rattle.std.proofs.Common.{◌≡◌, ◌++◌, ◌∷◌, map, ap, ◌∙◌
 use Rattle.tpl_model.specs.ShownNodes.Addresses.{address_of}
 use Rattle.tpl_model.specs.ShownNodes.Shapes.{child_of, mark_of}
 use Rattle.tpl_drawn.specs.Addresses.{coming_below, coming_in}
-use Rattle.tpl_drawn.proofs.Numbered.Lists.{last_out, no_items, step_out}
+use Rattle.page_tree.proofs.Shared.{last_out, no_items, step_out}
 use Rattle.tpl_drawn.proofs.marks.arrivals.put_coming.Goals as goal
 
 pub loop-mark-preserved : goal.loop-mark-preserved

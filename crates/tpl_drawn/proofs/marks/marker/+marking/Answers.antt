@@ -7,7 +7,7 @@ use Rattle.tpl_model.specs.declared.shown.Shown.TheViews.{out-Shown, roll-Shown}
 use Rattle.tpl_model.proofs.Shared.{tree_is, tree_shown}
 use Rattle.tpl_drawn.specs.Marks.{children_in, marks_in}
 use Rattle.tpl_drawn.specs.Addresses.{number_on}
-use Rattle.tpl_drawn.proofs.Numbered.Lists.{no_items}
+use Rattle.page_tree.proofs.Shared.{no_items}
 use Rattle.tpl_drawn.proofs.Numbered.Marks.{all_marked, is_new, is_there, none_marked, one_marked}
 use Rattle.tpl_drawn.proofs.marks.marker.+marking.Goals as goal
 

@@ -5,7 +5,8 @@ use Rattle.tpl_model.specs.ShownNodes.Addresses.{address_of}
 use Rattle.tpl_model.specs.ShownNodes.Shapes.{all_shown, look_of, shown_tree}
 use Rattle.tpl_model.specs.declared.shown.Shown.TheViews.{out-Shown}
 use Rattle.tpl_model.proofs.Shared.{tree_is}
-use Rattle.tpl_drawn.proofs.Numbered.Lists.{keys_after, last_out, no_items, node_out, step_out}
+use Rattle.page_tree.proofs.Shared.{last_out, no_items, step_out}
+use Rattle.tpl_drawn.proofs.Numbered.Lists.{keys_after, node_out}
 use Rattle.tpl_drawn.proofs.marks.numbers.+put_address.Goals as goal
 
 pub loop-child-preserved : goal.loop-child-preserved

@@ -1,6 +1,6 @@
 use Rattle.std.proofs.Common.{ap, ◌∙◌}
 use Rattle.tpl_drawn.specs.Addresses.{noted_from, number_in}
-use Rattle.tpl_drawn.proofs.Numbered.Lists.{no_items}
+use Rattle.page_tree.proofs.Shared.{no_items}
 use Rattle.tpl_drawn.proofs.Numbered.Addresses.{all_waiting, none_waiting, one_less}
 use Rattle.tpl_drawn.proofs.marks.numbers.note_numbers.Goals as goal
 

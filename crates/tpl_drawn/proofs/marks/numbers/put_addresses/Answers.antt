@@ -2,7 +2,8 @@ use Rattle.std.proofs.Common.{◌≡◌, ◌++◌, ◌∷◌, map, ap, ◌∙◌
 use Rattle.page_model.specs.Forest.{keys}
 use Rattle.tpl_model.specs.ShownNodes.Addresses.{address_of}
 use Rattle.tpl_model.specs.ShownNodes.Shapes.{all_shown, shown_tree}
-use Rattle.tpl_drawn.proofs.Numbered.Lists.{keys_after, last_out, no_items, step_out}
+use Rattle.page_tree.proofs.Shared.{last_out, no_items, step_out}
+use Rattle.tpl_drawn.proofs.Numbered.Lists.{keys_after}
 use Rattle.tpl_drawn.proofs.marks.numbers.put_addresses.Goals as goal
 
 pub loop-node-preserved : goal.loop-node-preserved

@@ -4,7 +4,7 @@ use Rattle.std.specs.Map.{lookup}
 use Rattle.tpl_model.specs.ShownNodes.Addresses.{same_address}
 use Rattle.tpl_drawn.specs.Addresses.{noted, number_in}
 use Rattle.tpl_drawn.specs.Lines.{lined}
-use Rattle.tpl_drawn.proofs.Numbered.Lists.{no_items}
+use Rattle.page_tree.proofs.Shared.{no_items}
 use Rattle.tpl_drawn.proofs.Numbered.Addresses.{all_noted, are_numbers, none_noted, one_noted}
 use Rattle.tpl_drawn.proofs.marks.numbers.Numbers.of.Goals as goal
 
