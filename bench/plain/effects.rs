@@ -9,12 +9,14 @@ use std::collections::HashMap;
 use std::fmt::Write;
 use std::rc::Rc;
 
+/// A line of an effect's body.
 pub enum Act {
     Log(Formula),
     Set(usize, Formula),
     When(Formula, Vec<Act>),
 }
 
+/// An effect.
 pub struct Effect {
     name: String,
     body: Rc<[Act]>,
@@ -49,6 +51,7 @@ pub fn body(script: &mut Script, signals: &HashMap<String, usize>) -> Read<Vec<A
 }
 
 impl Effect {
+    /// An effect of this body, which has never run.
     pub fn new(name: String, body: Vec<Act>) -> Effect {
         Effect { name, body: body.into(), has_run: false, reads: Vec::new() }
     }

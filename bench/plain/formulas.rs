@@ -8,6 +8,7 @@ use std::rc::Rc;
 /// The greatest length of a text that a formula makes.
 const LONGEST_TEXT: usize = 1024;
 
+/// What is done with two numbers.
 #[derive(Clone, Copy)]
 pub enum Operator {
     Add,
@@ -17,6 +18,7 @@ pub enum Operator {
     Remainder,
 }
 
+/// How two values are compared.
 #[derive(Clone, Copy)]
 pub enum Comparison {
     Same,
@@ -67,6 +69,7 @@ impl Trail {
         }
     }
 
+    /// Nothing was read.
     pub fn clear(&mut self) {
         self.signals.clear();
         self.slots = 0;

@@ -56,10 +56,12 @@ impl Graph {
         self.signals.len() - 1
     }
 
+    /// Makes a cell or a list, and gives its place.
     pub fn add_cell(&mut self, value: Value) -> usize {
         self.added(Ok(value), None, Mark::Clean)
     }
 
+    /// Makes a computed, which has never run, and gives its place.
     pub fn add_computed(&mut self, formula: Formula) -> usize {
         self.added(Ok(Value::Truth(false)), Some(formula), Mark::Stale)
     }
@@ -69,6 +71,7 @@ impl Graph {
         self.signals[signal].dependants.push(dependant);
     }
 
+    /// Has someone told no more.
     pub fn tell_no_more(&mut self, signal: usize, dependant: Dependant) {
         let dependants = &mut self.signals[signal].dependants;
         if let Some(place) = dependants.iter().position(|known| *known == dependant) {

@@ -16,11 +16,13 @@ pub enum Part {
     Rows(Vec<ShownRow>),
 }
 
+/// What a row shows, and the row as it was shown.
 pub struct ShownRow {
     row: Rc<Row>,
     pub parts: Vec<Part>,
 }
 
+/// An element.
 pub struct Element {
     pub name: Rc<str>,
     pub attributes: Vec<(Rc<str>, Option<String>)>,
@@ -29,6 +31,7 @@ pub struct Element {
     told: Vec<usize>,
 }
 
+/// What a node is. A node that was taken out is gone until its place is used again.
 pub enum Content {
     Text(String),
     Element(Element),
@@ -41,6 +44,7 @@ pub struct Node {
     pub content: Content,
 }
 
+/// A page.
 pub struct Page {
     pub name: String,
     template: Rc<Template>,
@@ -98,6 +102,7 @@ impl Page {
         update.operations()
     }
 
+    /// Appends the page as HTML.
     pub fn append_html(&self, out: &mut String) {
         if let Content::Element(root) = &self.nodes[0].content {
             html::append_parts(self, &root.parts, false, out);

@@ -15,6 +15,7 @@ fn is_passed_over(line: &str) -> bool {
 }
 
 impl<'a> Script<'a> {
+    /// The lines of a script, from its front on.
     pub fn new(text: &'a str) -> Script<'a> {
         Script { rest: text, line: 0 }
     }

@@ -13,11 +13,13 @@ pub struct Watched {
     pub of_row: bool,
 }
 
+/// An attribute of an element.
 pub struct Attribute {
     pub name: Rc<str>,
     pub value: Watched,
 }
 
+/// What a line shows.
 pub enum Kind {
     Text(Watched),
     Tag { name: Rc<str>, attributes: Vec<Attribute>, lines: Vec<Line> },
@@ -32,6 +34,7 @@ pub struct Line {
     pub of_row: bool,
 }
 
+/// The lines of a template.
 #[derive(Default)]
 pub struct Template {
     pub lines: Vec<Line>,

@@ -40,6 +40,7 @@ pub enum Fault {
 pub type Outcome = Result<Value, Fault>;
 
 impl Fault {
+    /// The word by which it is told.
     pub fn name(self) -> &'static str {
         match self {
             Fault::Overflow => "overflow",
@@ -52,6 +53,7 @@ impl Fault {
 }
 
 impl Value {
+    /// The truth that it is, or the fault `kind`.
     pub fn truth(self) -> Result<bool, Fault> {
         match self {
             Value::Truth(truth) => Ok(truth),
@@ -59,6 +61,7 @@ impl Value {
         }
     }
 
+    /// The number that it is, or the fault `kind`.
     pub fn number(self) -> Result<i64, Fault> {
         match self {
             Value::Number(number) => Ok(number),
@@ -66,6 +69,7 @@ impl Value {
         }
     }
 
+    /// The rows that it is, or the fault `kind`.
     pub fn rows(self) -> Result<Rc<Rows>, Fault> {
         match self {
             Value::Rows(rows) => Ok(rows),

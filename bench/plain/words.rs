@@ -27,6 +27,7 @@ pub struct Words<'a> {
 }
 
 impl<'a> Words<'a> {
+    /// The words of a line, from its front on.
     pub fn new(line: &'a str) -> Words<'a> {
         Words { line, at: 0 }
     }
@@ -114,6 +115,7 @@ impl<'a> Words<'a> {
         Ok(false)
     }
 
+    /// Takes the next word where it is this sign.
     pub fn takes_sign(&mut self, sign: &'static str) -> Read<bool> {
         self.takes(&Word::Sign(sign))
     }
@@ -157,6 +159,7 @@ impl<'a> Words<'a> {
         Ok(self.taken(length))
     }
 
+    /// The next word has to be a text.
     pub fn key(&mut self) -> Read<Rc<str>> {
         match self.next()? {
             Word::Text(text) => Ok(text),
@@ -164,6 +167,7 @@ impl<'a> Words<'a> {
         }
     }
 
+    /// The next word has to be a place, counted from 0.
     pub fn place(&mut self) -> Read<usize> {
         match self.next()? {
             Word::Number(number) => usize::try_from(number).or_else(|_| self.fault("a place")),
@@ -171,6 +175,7 @@ impl<'a> Words<'a> {
         }
     }
 
+    /// The next word has to be a value.
     pub fn value(&mut self) -> Read<Value> {
         match self.next()? {
             Word::Name("true") => Ok(Value::Truth(true)),
@@ -191,7 +196,7 @@ impl<'a> Words<'a> {
 }
 
 /// Reads one formula, the slots of whose names are counted from 0.
-pub struct FormulaReader<'a, 'b> {
+struct FormulaReader<'a, 'b> {
     words: &'b mut Words<'a>,
     signals: &'b HashMap<String, usize>,
     slots: Vec<usize>,
