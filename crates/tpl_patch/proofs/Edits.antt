@@ -10,7 +10,7 @@ use Rattle.page_model.specs.Forest.{Forest, none, node}
 use Rattle.page_model.specs.Labels.{Kind}
 use Rattle.page_model.specs.Pages.{those}
 use Rattle.page_model.specs.Replay.{OpInsert, OpMove}
-use Rattle.page_model.proofs.Shared.{or_left, or_right}
+use Rattle.page_model.proofs.Shared.{or_left, or_right, not_same}
 use Rattle.tpl_model.specs.NextPage.Arrivals.{coming}
 use Rattle.tpl_patch.specs.Spelled.{spelled}
 
@@ -40,13 +40,6 @@ still_those j news (m ∷ ms) h = elim (cases_Bool (listed m news)) [
       rw (e, q) (still_those j news ms h))
 ]
 
--- a number that isn't among these is none of them
-differs : (n j : ℕ) (ms : List ℕ) → listed n ms ≡ false → listed j ms ≡ true → (n == j) ≡ false
-differs n j ms off h = elim (cases_Bool (n == j)) [
-  | inl e ↦ absurd (true≢false (sym h ∙ (sym (ap (λ z. listed z ms) (eqb-true n j e)) ∙ off)))
-  | inr e ↦ e
-]
-
 -- ---- from each place on
 
 steps_linked : (p i : ℕ) (olds now : List ℕ) (stood : ℕ → Bool) (row : Forest Kind) → Apart nat_eq (siblings row) →
@@ -56,7 +49,7 @@ steps_linked p i olds now stood none a h = refl
 steps_linked p i olds now stood (node n x k r) a h =
     let here = h n (or_left (n == n) (listed n (siblings r)) (eq-eqb n n refl)) in
     let later : (j : ℕ) → listed j (siblings r) ≡ true → stood j ≡ listed j now = λ j e. h j (or_right (n == j) (listed j (siblings r)) e) in
-    let apart_from : (j : ℕ) → listed j (siblings r) ≡ true → (n == j) ≡ false = λ j e. differs n j (siblings r) a.0 e in
+    let apart_from : (j : ℕ) → listed j (siblings r) ≡ true → (n == j) ≡ false = λ j e. not_same n j (siblings r) a.0 e in
     elim (cases_Bool (listed n now)) [
       | inl e ↦ (
           let s = here ∙ e in

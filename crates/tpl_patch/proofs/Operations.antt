@@ -1,7 +1,7 @@
 -- Steps that are spelled out as operations.
 use Rattle.std.proofs.Common.{◌≡◌, ◌+◌, ◌<◌, ℕ, suc, nat_eq, refl, sym, ap, subst, ◌∙◌, arith, add-one, append_assoc, append-nil, List, [], ◌∷◌, ◌++◌, drop, length, map, slice_get, Some}
 use Rattle.std.specs.List.{IsDistinct}
-use Rattle.std.proofs.lemmas.List.{drop_more, map-append}
+use Rattle.std.proofs.lemmas.List.{drop_more}
 use Rattle.std.proofs.lemmas.Option.{get_or_from_slice_get}
 use Rattle.keyed_each.specs.Steps.{steps_between}
 use Rattle.keyed_each.specs.declared.places.RowStep.{RowStep}
@@ -10,8 +10,6 @@ use Rattle.page_model.specs.Edits.{listed, siblings}
 use Rattle.page_model.specs.Forest.{Forest, after, kids}
 use Rattle.page_model.specs.Labels.{Kind, shown}
 use Rattle.page_model.specs.Replay.{Op, OpMove}
-use Rattle.page_ops.specs.Ops.{op_of}
-use Rattle.page_ops.specs.declared.op.Op as held
 use Rattle.page_tree.specs.declared.sub.Sub.{Sub}
 use Rattle.page_tree.specs.Subs.{insertion, side_by_side, sub_tree}
 use Rattle.page_tree.proofs.Shared.{one_node}
@@ -22,10 +20,6 @@ use Rattle.tpl_model.specs.ShownNodes.Shapes.{Marked, Next}
 use Rattle.tpl_patch.specs.Moves.{AllFit, AllSound, AreSound, Fits, arrivals, moved_between, next_numbers, number_after, number_behind}
 use Rattle.tpl_patch.specs.Spelled.{spelled}
 use Rattle.tpl_patch.proofs.Edits.{linked}
-
--- one operation behind others
-pub pushed : (os ps : List held.Op) (o : held.Op) (x : Op) → ps ≡ os ++ o ∷ [] → op_of o ≡ x → map op_of ps ≡ map op_of os ++ x ∷ []
-pushed os ps o x e f = ap (map op_of) e ∙ (map-append op_of os (o ∷ []) ∙ ap (λ z. map op_of os ++ z ∷ []) f)
 
 -- ---- one step
 

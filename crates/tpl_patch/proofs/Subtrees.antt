@@ -1,9 +1,10 @@
 -- Nodes that come, as numbered subtrees.
-use Rattle.std.proofs.Common.{◌≡◌, ◌<◌, ◌+◌, ℕ, true, false, refl, sym, ap, subst, ◌∙◌, arith, append_assoc, append-nil, List, [], ◌∷◌, ◌++◌, length, Option, Some, None}
+use Rattle.std.proofs.Common.{◌≡◌, ◌<◌, ◌+◌, ℕ, true, false, refl, sym, ap, subst, ◌∙◌, arith, append_assoc, List, [], ◌∷◌, ◌++◌, length, Option, Some, None}
 use Rattle.std.proofs.lemmas.Bool.{false≢true}
 use Rattle.page_model.specs.Forest.{Forest, none, node, after, count, keys}
 use Rattle.page_model.specs.Labels as label
 use Rattle.page_model.specs.Labels.{Look, Sound, with_value}
+use Rattle.page_tree.proofs.Shared.{last_out}
 use Rattle.tpl_scratch.specs.Pages.{Numbered, with_nodes}
 use Rattle.tpl_scratch.proofs.Shared.{after_none, with_after, with_none}
 use Rattle.tpl_model.specs.ShownNodes.Addresses.{address_of}
@@ -20,14 +21,6 @@ use Rattle.tpl_patch.specs.Moves.{AreSound, arrivals, next_numbers}
 pub one_present : (name : List ℕ) (o : Option (List ℕ)) (rest : List (List ℕ × List ℕ)) → with_value name o rest ≡ with_value name o [] ++ rest
 one_present name None rest = refl
 one_present name (Some v) rest = refl
-
--- ---- lists that are put together
-
-pub step_out : {B : Type 0} (before now one rest all total : List B) → now ≡ before ++ one → all ≡ one ++ rest → before ++ all ≡ total → now ++ rest ≡ total
-step_out before now one rest all total e f h = ap (λ z. z ++ rest) e ∙ (append_assoc before one rest ∙ (ap (λ z. before ++ z) (sym f) ∙ h))
-
-pub last_out : {B : Type 0} (now rest total : List B) → rest ≡ [] → now ++ rest ≡ total → now ≡ total
-last_out now rest total e h = sym (append-nil now) ∙ (ap (λ z. now ++ z) (sym e) ∙ h)
 
 -- ---- nodes
 

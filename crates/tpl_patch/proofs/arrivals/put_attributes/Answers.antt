@@ -1,7 +1,8 @@
 use Rattle.std.proofs.Common.{◌≡◌, [], ◌∷◌, ◌+◌, ◌++◌, sym, ap, ◌∙◌, drop}
 use Rattle.std.proofs.lemmas.List.{drop_more, drop_all}
 use Rattle.page_model.specs.Labels.{present, with_value}
-use Rattle.tpl_patch.proofs.Subtrees.{last_out, one_present, step_out}
+use Rattle.page_tree.proofs.Shared.{last_out, step_out}
+use Rattle.tpl_patch.proofs.Subtrees.{one_present}
 use Rattle.tpl_patch.proofs.arrivals.put_attributes.Goals as goal
 
 pub loop-attribute-preserved : goal.loop-attribute-preserved

@@ -1,7 +1,8 @@
 use Rattle.std.proofs.Common.{refl, map, arith}
 use Rattle.page_ops.specs.Ops.{op_of}
 use Rattle.page_tree.specs.Subs.{insertion, sub_tree}
-use Rattle.tpl_patch.proofs.Operations.{no_arrival, one_arrival, pushed}
+use Rattle.tpl_patch.proofs.Operations.{no_arrival, one_arrival}
+use Rattle.tpl_patch.proofs.Said.{pushed}
 use Rattle.tpl_patch.proofs.moves.put_arrival.Goals as goal
 
 pub returns-in_default : goal.returns-in_default

@@ -2,7 +2,8 @@ use Rattle.std.proofs.Common.{◌∷◌, ◌++◌, refl, sym, ap, ◌∙◌, map
 use Rattle.page_model.specs.Replay.{OpMove}
 use Rattle.page_ops.specs.Ops.{op_of}
 use Rattle.tpl_patch.specs.Spelled.{spelled}
-use Rattle.tpl_patch.proofs.Operations.{move_spelled, pushed, side}
+use Rattle.tpl_patch.proofs.Operations.{move_spelled, side}
+use Rattle.tpl_patch.proofs.Said.{pushed}
 use Rattle.tpl_patch.proofs.moves.put_step.Goals as goal
 
 pub returns-in_ok-push-in-Move : goal.returns-in_ok-push-in-Move
