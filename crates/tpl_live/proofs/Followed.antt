@@ -1,12 +1,12 @@
 -- The numbers by address of the next page: those that were known, and those of what came.
-use Rattle.std.proofs.Common.{◌≡◌, ℕ, suc, ◌+◌, ◌<◌, ◌≤◌, ◌==◌, ◌||◌, Bool, true, false, cond, Option, Some, None, List, [], ◌∷◌, length, map, refl, sym, ap, subst, ◌∙◌, arith, eqb-true, inl, inr}
+use Rattle.std.proofs.Common.{◌≡◌, ℕ, suc, ◌+◌, ◌<◌, ◌≤◌, ◌==◌, ◌||◌, Bool, true, false, cond, Option, Some, None, List, [], ◌∷◌, length, map, refl, sym, ap, subst, ◌∙◌, arith, inl, inr}
 use Rattle.std.specs.List.{flat_map}
 use Rattle.std.proofs.lemmas.Bool.{cases_Bool, false≢true, true≢false, or_cases}
 use Rattle.page_model.specs.Edits.{listed}
 use Rattle.page_model.specs.Forest.{Forest, none, node, keys, kids, numbered, on}
 use Rattle.page_model.specs.Labels.{Kind, Look, shown}
 use Rattle.page_model.specs.Pages.{IsPage, IsShape, NumberedPage, SameOrigin, ascending_by, new_order, newcomers, number_of, page_shape, place_in, renumbered, those, tree_of}
-use Rattle.page_model.proofs.Shared.{kept_number, on_kids, or_left, or_right, page_after, self_on, shape_after, unused_number}
+use Rattle.page_model.proofs.Shared.{kept_number, on_kids, or_left, or_right, page_after, shape_after, unused_number, on_shown, on_numbered}
 use Rattle.tpl_drawn.specs.Comparison.{known_of}
 use Rattle.tpl_model.proofs.Shared.{by_number_is, in_keys, listed_often, on_num, order_law, same_number, in_both}
 use Rattle.tpl_drawn.specs.Marks.{Knows}
@@ -18,21 +18,6 @@ use Rattle.tpl_live.specs.Pages.{AreKnown}
 
 -- ---- of a page
 
-on_shown : (n : ℕ) (t : Forest Look) → on n (shown t) ≡ on n t
-on_shown n none = refl
-on_shown n (node m x k r) = (λ i. (m == n) || (on_shown n k i || on_shown n r i))
-
--- the node of a number
-from_num : (num : ℕ → ℕ) (n : ℕ) (t : Forest Look) → on n (numbered num t) ≡ true → (a : ℕ) × (on a t ≡ true) × (num a ≡ n)
-from_num num n none h = absurd (false≢true h)
-from_num num n (node m x k r) h = elim (or_cases (num m == n) (on n (numbered num k) || on n (numbered num r)) h) [
-  | inl e ↦ (m, self_on m x k r, eqb-true (num m) n e)
-  | inr e ↦ elim (or_cases (on n (numbered num k)) (on n (numbered num r)) e) [
-    | inl f ↦ (let i = from_num num n k f in (i.0, or_right (m == i.0) (on i.0 k || on i.0 r) (or_left (on i.0 k) (on i.0 r) i.1), i.2))
-    | inr f ↦ (let i = from_num num n r f in (i.0, or_right (m == i.0) (on i.0 k || on i.0 r) (or_right (on i.0 k) (on i.0 r) i.1), i.2))
-  ]
-]
-
 on_tree : (p : NumberedPage) (a : ℕ) → IsPage p → on a (page_shape p) ≡ true → on (number_of p a) (tree_of p) ≡ true
 on_tree p a q o =
     ap (λ z. on (number_of p a) (shown z)) (by_number_is p q.once)
@@ -41,7 +26,7 @@ on_tree p a q o =
 -- the node of a number
 pub on_page : (p : NumberedPage) (n : ℕ) → IsPage p → on n (tree_of p) ≡ true → (a : ℕ) × (on a (page_shape p) ≡ true) × (number_of p a ≡ n)
 on_page p n q h =
-    from_num (number_of p) n (page_shape p)
+    on_numbered (number_of p) n (page_shape p)
     (sym (on_shown n (numbered (number_of p) (page_shape p))) ∙ (ap (λ z. on n (shown z)) (sym (by_number_is p q.once)) ∙ h))
 
 -- ---- numbers of nodes that are there

@@ -1,11 +1,10 @@
 -- Nodes that are inserted below the root, one behind the other.
-use Rattle.std.proofs.Common.{◌≡◌, ◌<◌, ◌≤◌, ◌+◌, ℕ, suc, List, [], ◌∷◌, ◌++◌, length, length-append, map, drop, get_or, refl, sym, ap, subst, ◌∙◌, arith, append_assoc}
-use Rattle.std.proofs.lemmas.List.{drop_more, drop_all}
+use Rattle.std.proofs.Common.{◌≡◌, ◌+◌, ℕ, suc, List, [], ◌∷◌, ◌++◌, length, length-append, map, refl, sym, ap, subst, ◌∙◌, arith, append_assoc}
 use Rattle.page_model.specs.Edits.{siblings}
 use Rattle.page_model.specs.Forest.{Forest, none, node, after, keys}
 use Rattle.page_model.specs.Labels.{Kind, Look, Root, Sound, shown}
-use Rattle.page_model.specs.Replay.{Answer, Done, Op, Refused, do_op, replay, then_on}
-use Rattle.page_model.specs.Trees.{AreNodes, Brings}
+use Rattle.page_model.specs.Replay.{Answer, Done, Op, Refused, replay, then_on}
+use Rattle.page_model.specs.Trees.{AreNodes}
 use Rattle.page_tree.specs.declared.sub.Sub.{Sub}
 use Rattle.page_tree.specs.Queries.{IsDone}
 use Rattle.page_tree.specs.Subs.{insertion, side_by_side, sub_tree}
@@ -17,6 +16,7 @@ use Rattle.tpl_model.specs.declared.shown.Shown.{Shown}
 use Rattle.tpl_scratch.specs.Pages.{Numbered, with_nodes}
 use Rattle.tpl_model.specs.PageUpdates.PageMemos.{PageMemo}
 use Rattle.tpl_live.specs.Pages.{AreInserted, Leads, below_in, inserts, shown_in}
+use Rattle.tpl_live.specs.Plans.{AllBring}
 
 -- the first of some nodes
 pub first_inserted : (n i : ℕ) (s rest : Forest Kind) → siblings s ≡ n ∷ [] → inserts i (after s rest) ≡ insertion 0 i s ∷ inserts (suc i) rest
@@ -24,69 +24,14 @@ first_inserted n i s rest e =
     let w = one_node n s e in
     subst (λ z. inserts i (after z rest) ≡ insertion 0 i z ∷ inserts (suc i) rest) (sym w.2) refl
 
-first_brings : (n i : ℕ) (s rest : Forest Kind) → siblings s ≡ n ∷ [] → AreNodes (after s rest) → Brings (insertion 0 i s) × AreNodes rest
-first_brings n i s rest e are =
-    let w = one_node n s e in
-    subst (λ z. AreNodes (after z rest) → Brings (insertion 0 i z) × AreNodes rest) (sym w.2) (λ a. ((a.0, a.1, tt), a.2)) are
-
 pub first_done : (a : Answer) (f : Forest Kind → Answer) → IsDone (then_on a f) → IsDone a
 first_done (Done t) f h = tt
 first_done (Refused why) f h = h
 
--- what is left to insert, from place i on
-pub record AreLeft (subs : List Sub) (i : ℕ) (tree : Forest Kind) (last : Answer) : Type 0 where
-  pub nodes : AreNodes (side_by_side (map sub_tree (drop i subs)))
-  pub leads : replay (inserts i (side_by_side (map sub_tree (drop i subs)))) tree ≡ last
-
--- the next of them can be inserted
-pub record CanCome (s : Forest Kind) (i : ℕ) (tree : Forest Kind) : Type 0 where
-  pub nodes : Brings (insertion 0 i s)
-  pub fits : IsDone (do_op (insertion 0 i s) tree)
-
--- what is left begins with the next
-left_split : (subs : List Sub) (i : ℕ) (s : Sub) → i < length subs → s ≡ get_or subs i s →
-    side_by_side (map sub_tree (drop i subs)) ≡ after (sub_tree s) (side_by_side (map sub_tree (drop (i + 1) subs)))
-left_split subs i s lt is =
-    ap (λ z. side_by_side (map sub_tree z)) (drop_more subs i s lt ∙ ap (λ z. z ∷ drop (i + 1) subs) (sym is))
-
-pub next_comes : (subs : List Sub) (i n : ℕ) (s : Sub) (t tree : Forest Kind) (last : Answer) → AreLeft subs i tree last → i < length subs → s ≡ get_or subs i s →
-    siblings (sub_tree s) ≡ n ∷ [] → t ≡ sub_tree s → IsDone last → CanCome t i tree
-next_comes subs i n s t tree last left lt is one same done =
-    let rest = side_by_side (map sub_tree (drop (i + 1) subs)) in
-    let split = left_split subs i s lt is in
-    let comes : inserts i (side_by_side (map sub_tree (drop i subs))) ≡ insertion 0 i (sub_tree s) ∷ inserts (suc i) rest =
-    ap (inserts i) split ∙ first_inserted n i (sub_tree s) rest one in
-    let led : IsDone (then_on (do_op (insertion 0 i (sub_tree s)) tree) (replay (inserts (suc i) rest))) =
-    subst (λ z. IsDone (replay z tree)) comes (subst IsDone (sym left.leads) done) in
-    subst (λ z. CanCome z i tree) (sym same)
-    (record {
-      nodes = (first_brings n i (sub_tree s) rest one (subst AreNodes split left.nodes)).0;
-      fits = first_done (do_op (insertion 0 i (sub_tree s)) tree) (replay (inserts (suc i) rest)) led;
-    })
-
-pub one_came : (subs : List Sub) (i n : ℕ) (s : Sub) (t tree now : Forest Kind) (last : Answer) → AreLeft subs i tree last → i < length subs → s ≡ get_or subs i s →
-    siblings (sub_tree s) ≡ n ∷ [] → t ≡ sub_tree s → do_op (insertion 0 i t) tree ≡ Done now → AreLeft subs (i + 1) now last
-one_came subs i n s t tree now last left lt is one same did =
-    let rest = side_by_side (map sub_tree (drop (i + 1) subs)) in
-    let split = left_split subs i s lt is in
-    let e : suc i ≡ i + 1 = omega arith in
-    let comes : inserts i (side_by_side (map sub_tree (drop i subs))) ≡ insertion 0 i (sub_tree s) ∷ inserts (i + 1) rest =
-    ap (inserts i) split ∙ (first_inserted n i (sub_tree s) rest one ∙ ap (λ z. insertion 0 i (sub_tree s) ∷ inserts z rest) e) in
-    let did_so : do_op (insertion 0 i (sub_tree s)) tree ≡ Done now = subst (λ z. do_op (insertion 0 i z) tree ≡ Done now) same did in
-    record {
-      nodes = (first_brings n i (sub_tree s) rest one (subst AreNodes split left.nodes)).1;
-      leads = sym (ap (λ z. then_on z (replay (inserts (i + 1) rest))) did_so) ∙ (sym (ap (λ z. replay z tree) comes) ∙ left.leads);
-    }
-
--- none is left
-pub none_left : (subs : List Sub) (i : ℕ) (tree : Forest Kind) (last : Answer) → AreLeft subs i tree last → length subs ≤ i → last ≡ Done tree
-none_left subs i tree last left le =
-    sym left.leads ∙ ap (λ z. replay (inserts i (side_by_side (map sub_tree z))) tree) (drop_all i subs le)
-
--- all are left
-pub all_left : (subs : List Sub) (tree : Forest Kind) → AreNodes (side_by_side (map sub_tree subs)) →
-    AreLeft subs 0 tree (replay (inserts 0 (side_by_side (map sub_tree subs))) tree)
-all_left subs tree are = record { nodes = are; leads = refl }
+-- what they bring are nodes
+pub all_bring : (i : ℕ) (below : Forest Kind) → AreNodes below → AllBring (inserts i below)
+all_bring i none are = tt
+all_bring i (node n x k r) are = ((are.0, are.1, tt), all_bring (suc i) r are.2)
 
 -- ---- as operations
 
@@ -157,8 +102,3 @@ below_is below tree now are e led = done_inj (sym led ∙ (ap (replay (inserts 0
 
     done_inj : {t u : Forest Kind} → Done t ≡ Done u → t ≡ u
     done_inj h = ap tree_in h
-
--- a list of no items
-pub no_items : {A : Type 0} (xs : List A) (n : ℕ) → n ≡ length xs → n ≡ 0 → xs ≡ []
-no_items [] n e f = refl
-no_items (x ∷ xs) n e f = absurd (omega (arith, e, f))

@@ -1,8 +1,8 @@
 -- Marks of nodes whose next children are those that they have are left out.
-use Rattle.std.proofs.Common.{◌≡◌, ℕ, suc, ◌≤◌, ◌==◌, ◌&&◌, Bool, true, false, cond, if◌then◌else◌, Some, None, List, [], ◌∷◌, ◌++◌, length, map, nat_eq, refl, sym, ap, subst, ◌∙◌, arith, eqb-true, eq-eqb, inl, inr}
+use Rattle.std.proofs.Common.{◌≡◌, ℕ, suc, ◌≤◌, ◌==◌, Bool, true, false, cond, if◌then◌else◌, Some, None, List, [], ◌∷◌, ◌++◌, length, map, nat_eq, refl, sym, ap, subst, ◌∙◌, arith, eqb-true, eq-eqb, inl, inr}
 use lib.Pointwise.{pointwise}
 use Rattle.std.specs.List.{AllByRecursion}
-use Rattle.std.proofs.lemmas.Bool.{cases_Bool, false≢true, true≢false, or_cases}
+use Rattle.std.proofs.lemmas.Bool.{cases_Bool, false≢true, true≢false, or_cases, and_parts}
 use Rattle.std.proofs.lemmas.Bool.Decides.{Decides-eqb}
 use Rattle.std.proofs.lemmas.Slice.Eq.{slice_eq-Decides}
 use Rattle.page_model.specs.Edits.{listed, siblings}
@@ -20,14 +20,6 @@ use Rattle.tpl_live.specs.Plans.{keeps_children, moving, numbers_of, numbers_sta
 use Rattle.tpl_live.proofs.Orders.{Rising, address_in}
 
 -- ---- the same children
-
-first_holds : (a b : Bool) → (a && b) ≡ true → a ≡ true
-first_holds true b h = refl
-first_holds false b h = h
-
-second_holds : (a b : Bool) → (a && b) ≡ true → b ≡ true
-second_holds true b h = h
-second_holds false b h = absurd (false≢true h)
 
 -- no more children stay than there are
 few_stay : (cs : List Next) → length (numbers_staying cs) ≤ length cs
@@ -90,17 +82,12 @@ kept_children : (p : NumberedPage) (shape : Forest Look) (a : ℕ) (m : Marked) 
 kept_children p shape a m q at h =
     let ns = numbers_staying m.children in
     let olds = siblings (kids m.number (tree_of p)) in
-    let many : length ns ≡ length m.children = eqb-true (length ns) (length m.children) (first_holds (length ns == length m.children) (pointwise nat_eq ns olds) h) in
-    let same : ns ≡ olds = (slice_eq-Decides Decides-eqb ns olds _ refl).0 (second_holds (length ns == length m.children) (pointwise nat_eq ns olds) h) in
+    let many : length ns ≡ length m.children = eqb-true (length ns) (length m.children) (and_parts (length ns == length m.children) (pointwise nat_eq ns olds) h).0 in
+    let same : ns ≡ olds = (slice_eq-Decides Decides-eqb ns olds _ refl).0 (and_parts (length ns == length m.children) (pointwise nat_eq ns olds) h).1 in
     let next : AllStay p (kids a shape) (children_in (known_of p) (kids a shape)) =
     all_stay p (kids a shape) (subst (λ z. length (numbers_staying z) ≡ length z) at.children many) in
     same_numbered p q (siblings (kids a (page_shape p))) (siblings (kids a shape)) (λ b i. child_on a b (page_shape p) i) next.there
     (sym (children_read p a q at.here) ∙ (ap (λ z. siblings (kids z (tree_of p))) (sym at.number) ∙ (sym same ∙ (ap numbers_staying at.children ∙ next.numbers))))
-
--- a list of no items
-pub no_items : {A : Type 0} (xs : List A) (n : ℕ) → n ≡ length xs → n ≡ 0 → xs ≡ []
-no_items [] n e f = refl
-no_items (x ∷ xs) n e f = absurd (omega (arith, e, f))
 
 -- ---- the marks that are left
 

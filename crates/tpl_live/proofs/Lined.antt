@@ -4,8 +4,8 @@ use Rattle.std.proofs.lemmas.Bool.{cases_Bool, false≢true, or_cases}
 use Rattle.std.proofs.lemmas.List.{map-append}
 use Rattle.page_model.specs.Edits.{listed}
 use Rattle.page_model.specs.Forest.{Forest, keys, node, none, numbered, on}
-use Rattle.page_model.specs.Labels.{Kind, Look, Root, shown}
-use Rattle.page_model.specs.Pages.{IsPage, IsShape, NumberedPage, SameOrigin, by_number, new_order, number_of, page_shape, place_in, renumbered, tree_of}
+use Rattle.page_model.specs.Labels.{Kind, Look, Root}
+use Rattle.page_model.specs.Pages.{IsPage, IsShape, NumberedPage, by_number, new_order, number_of, page_shape, place_in, renumbered, tree_of}
 use Rattle.page_model.specs.Replay.{below_root}
 use Rattle.page_model.proofs.Shared.{both, kept_number, not_zero, or_left, or_right, shape_after, unused_number}
 use Rattle.event_model.specs.Ways.{line_in, line_on}

@@ -1,12 +1,12 @@
 -- What comes to marked nodes has the next numbers, in the order of the marks.
-use Rattle.std.proofs.Common.{◌≡◌, ℕ, suc, ◌+◌, ◌<◌, ◌≤◌, ◌==◌, ◌||◌, ltb, Bool, true, false, cond, Option, Some, None, List, [], ◌∷◌, ◌++◌, append_assoc, append-nil, length, length-append, refl, sym, ap, subst, ◌∙◌, arith, eqb-true, eq-eqb, nat_eq, inl, inr}
+use Rattle.std.proofs.Common.{◌≡◌, ℕ, suc, ◌+◌, ◌≤◌, ◌==◌, ltb, Bool, true, false, cond, Option, Some, None, List, [], ◌∷◌, ◌++◌, append_assoc, append-nil, length, length-append, refl, sym, ap, subst, ◌∙◌, arith, eq-eqb, nat_eq, inl, inr}
 use Rattle.std.specs.List.{flat_map, IsDistinct}
-use Rattle.std.proofs.lemmas.Bool.{cases_Bool, false≢true, ltb-false, ltb-true}
+use Rattle.std.proofs.lemmas.Bool.{cases_Bool, lt-ltb, le-ltb}
 use Rattle.page_model.specs.Edits.{listed, siblings}
-use Rattle.page_model.specs.Forest.{Forest, none, node, keys, kids, label_in, numbered, on}
-use Rattle.page_model.specs.Labels.{Root, Kind, Look, Sound, seen, shown}
-use Rattle.page_model.specs.Pages.{IsPage, IsShape, NumberedPage, SameOrigin, carried, new_order, newcomers, number_of, page_shape, renumbered, tree_of, with_numbers}
-use Rattle.page_model.proofs.Shared.{or_left, or_right, page_after, shape_after}
+use Rattle.page_model.specs.Forest.{Forest, none, node, keys, kids, numbered, on}
+use Rattle.page_model.specs.Labels.{Kind, Look, Sound, seen, shown}
+use Rattle.page_model.specs.Pages.{IsPage, IsShape, NumberedPage, SameOrigin, carried, new_order, newcomers, number_of, page_shape, renumbered, tree_of}
+use Rattle.page_model.proofs.Shared.{or_left, or_right, page_after, shape_after, by_number_with, number_with}
 use Rattle.tpl_model.specs.NextPage.Arrivals.{coming}
 use Rattle.tpl_model.specs.NextPage.Children.{next_children, old_children}
 use Rattle.tpl_model.proofs.Shared.{children_law, kids_num, serial_law}
@@ -15,14 +15,7 @@ use Rattle.tpl_drawn.specs.Addresses.{coming_below, coming_in}
 use Rattle.tpl_model.specs.Sources.{in_order}
 use Rattle.tpl_patch.specs.Moves.{AllFit, AllSound, AreSound, Fits, arrivals, next_numbers, number_after, number_behind}
 use Rattle.tpl_model.specs.ShownNodes.Shapes.{Marked, Next}
-use Rattle.tpl_live.proofs.Mounted.{numbers_shown}
 use Rattle.tpl_drawn.specs.Comparison.{Each, IsTouched, known_of}
-
-ltb_of : (m n : ℕ) → m < n → ltb m n ≡ true
-ltb_of m n h = elim (cases_Bool (ltb m n)) [ inl e ↦ e | inr e ↦ (let u = ltb-false m n e in absurd (omega (arith, h, u))) ]
-
-ltb_not : (m n : ℕ) → n ≤ m → ltb m n ≡ false
-ltb_not m n h = elim (cases_Bool (ltb m n)) [ inl e ↦ (let u = ltb-true m n e in absurd (omega (arith, h, u))) | inr e ↦ e ]
 
 -- ---- the children of one node
 
@@ -53,7 +46,7 @@ level_node : (p : NumberedPage) (shape : Forest Look) (a : ℕ) (x : Look) (k r 
 level_node p shape a x k r cs n true q le e later s =
     let h = later n le s in
     let old : carried p shape a ≡ number_of p a = rw e refl in
-    let g : ltb (carried p shape a) p.next ≡ true = ap (λ z. ltb z p.next) old ∙ ltb_of (number_of p a) p.next (q.below a e) in
+    let g : ltb (carried p shape a) p.next ≡ true = ap (λ z. ltb z p.next) old ∙ lt-ltb (number_of p a) p.next (q.below a e) in
     ((λ i. old i ∷ h.0 i), rw g h.1)
 level_node p shape a x k r cs n false q le e later s =
     let num = carried p shape in
@@ -63,7 +56,7 @@ level_node p shape a x k r cs n false q le e later s =
     let below : numbered num k ≡ in_order (suc n) k = ap first_kids s in
     let l = length-append (keys k) [] in
     let c : m ≡ n + length (keys (node a x k none)) = omega (arith, l) in
-    let g : ltb (num a) p.next ≡ false = ap (λ z. ltb z p.next) key ∙ ltb_not n p.next le in
+    let g : ltb (num a) p.next ≡ false = ap (λ z. ltb z p.next) key ∙ le-ltb n p.next le in
     ((λ i. key i ∷ (h.0 ∙ ap (λ z. next_numbers z cs) c) i), rw g (λ i. node (key i) (seen x) (shown (below i)) (h.1 i)))
 
 level : (p : NumberedPage) (shape t : Forest Look) (n : ℕ) → IsPage p → p.next ≤ n →
@@ -130,23 +123,6 @@ all_sound p shape (a ∷ ws) [] s h = absurd h
 
 -- ---- in the next tree
 
-on_with : (num : ℕ → ℕ) (j : ℕ) (t : Forest Look) → on j (with_numbers num t) ≡ on j t
-on_with num j none = refl
-on_with num j (node m x k r) = (λ i. (m == j) || (on_with num j k i || on_with num j r i))
-
-number_with : (num : ℕ → ℕ) (a : ℕ) (t : Forest Look) → on a t ≡ true → (label_in (0, Root) a (with_numbers num t)).0 ≡ num a
-number_with num a none h = absurd (false≢true h)
-number_with num a (node m x k r) h = elim (cases_Bool (m == a)) [
-  | inl e ↦ rw e (ap num (eqb-true m a e))
-  | inr e ↦ elim (cases_Bool (on a k)) [
-    | inl f ↦ (let g : on a (with_numbers num k) ≡ true = on_with num a k ∙ f in rw (e, g) (number_with num a k f))
-    | inr f ↦ (
-        let g : on a (with_numbers num k) ≡ false = on_with num a k ∙ f in
-        let o : on a r ≡ true = rw (e, f) at h in
-        rw (e, g) (number_with num a r o))
-  ]
-]
-
 -- the children of a node that stays, by its number
 pub kids_next : (p : NumberedPage) (shape : Forest Look) (a : ℕ) → IsPage p → IsShape shape → on a (page_shape p) ≡ true → on a shape ≡ true →
     kids (number_of p a) (tree_of (renumbered p shape)) ≡ shown (numbered (carried p shape) (kids a shape))
@@ -156,7 +132,7 @@ kids_next p shape a q s here there =
     let old : num a ≡ number_of p a = rw here refl in
     let same : page_shape (renumbered p shape) ≡ shape = shape_after p shape in
     ap (λ z. kids z (tree_of (renumbered p shape))) (sym old)
-    ∙ (ap (λ t. kids (num a) (shown t)) (numbers_shown num shape)
+    ∙ (ap (λ t. kids (num a) (shown t)) (by_number_with num shape)
     ∙ kids_num num a shape
     (λ b o e. next.distinct a b (ap (on a) same ∙ there) (ap (on b) same ∙ o) (number_with num a shape there ∙ (e ∙ sym (number_with num b shape o)))))
 

@@ -1,18 +1,18 @@
 -- A page that is mounted: what is made from scratch, with the numbers of document order.
-use Rattle.std.proofs.Common.{◌≡◌, ℕ, suc, ◌+◌, ◌≤◌, ◌==◌, Bool, true, false, refl, sym, ap, subst, ◌∙◌, arith, eqb-true, eq-eqb, inl, inr, List, [], ◌∷◌, ◌++◌, append-nil, length, length-append, None}
+use Rattle.std.proofs.Common.{◌≡◌, ℕ, suc, ◌+◌, ◌≤◌, ◌==◌, true, false, refl, sym, ap, subst, ◌∙◌, arith, eqb-true, inl, inr, List, [], ◌∷◌, ◌++◌, append-nil, length, length-append, None}
 use Rattle.std.proofs.lemmas.Bool.{cases_Bool}
 use Rattle.sig_base.specs.declared.value.Outcome.{Outcome}
 use Rattle.page_model.specs.Edits.{child_edits, listed, put_at}
 use Rattle.page_model.specs.Forest.{Forest, none, node, keys, kids, numbered, on, tally}
 use Rattle.page_model.specs.Labels.{Root, Kind, Look, Sound, seen, shown}
 use Rattle.page_model.specs.Pages.{IsPage, bare, by_number, carried, edits_between, new_order, newcomers, page_shape, tree_of, with_numbers}
-use Rattle.page_model.proofs.Shared.{on_tally}
+use Rattle.page_model.proofs.Shared.{on_tally, by_number_with}
 use Rattle.page_model.specs.Replay.{Done, OpInsert, replay}
 use Rattle.tpl_model.specs.Laws.{GivesRows, IsTemplate}
 use Rattle.tpl_model.specs.Lines.{Line, block_of}
 use Rattle.tpl_model.specs.Shapes.{shown_lines}
 use Rattle.tpl_model.specs.Sources.{evaluating, in_order}
-use Rattle.tpl_model.proofs.Shared.{scratch_law, shape_law, in_both, mount_law, shape_shown}
+use Rattle.tpl_model.proofs.Shared.{scratch_law, shape_law, in_both, mount_law, shape_shown, newcomers_all}
 use Rattle.tpl_model.specs.PageUpdates.PageMemos.{PageMemo, nodes}
 use Rattle.tpl_model.specs.PageUpdates.Updates.{Keeps, Mounted, memo_on, memo_shape, next_page, shape_on}
 use Rattle.tpl_live.specs.Pages.{Standing, inserts, numbered_as, page_in, shape_in}
@@ -23,10 +23,6 @@ use Rattle.tpl_live.specs.Pages.{Standing, inserts, numbered_as, page_in, shape_
 pub numbers_back : (num : ℕ → ℕ) (xs : Forest Look) → numbered_as xs (shown (by_number (with_numbers num xs))) ≡ with_numbers num xs
 numbers_back num none = refl
 numbers_back num (node a x k r) = (λ i. node a (num a, x) (numbers_back num k i) (numbers_back num r i))
-
-pub numbers_shown : (num : ℕ → ℕ) (xs : Forest Look) → by_number (with_numbers num xs) ≡ numbered num xs
-numbers_shown num none = refl
-numbers_shown num (node a x k r) = (λ i. node (num a) x (numbers_shown num k i) (numbers_shown num r i))
 
 -- ---- insertions
 
@@ -54,18 +50,6 @@ all_inserted n i now (node a x k r) l new =
     rw e (ap (λ z. OpInsert 0 i n (seen x) (shown (in_order (suc n) k)) ∷ z) (ap (λ z. child_edits 0 (suc i) z (shown (in_order next r))) put ∙ more))
 
 -- ---- the first numbers
-
--- new nodes are all, where none was there
-newcomers_all : (kept : ℕ → Bool) (t : Forest Look) → ((a : ℕ) → on a t ≡ true → kept a ≡ false) → newcomers kept t ≡ keys t
-newcomers_all kept none h = refl
-newcomers_all kept (node m x k r) h =
-    let self = eq-eqb m m refl in
-    let e = h m (rw self refl) in
-    let i = newcomers_all kept r (λ a p. h a (elim (cases_Bool (m == a)) [
-      | inl u ↦ rw u refl
-      | inr u ↦ elim (cases_Bool (on a k)) [ inl v ↦ rw (u, v) refl | inr v ↦ rw (u, v) p ]
-    ])) in
-    rw (e, i) refl
 
 -- an address below the root isn't the root's
 fresh : (t : Forest Look) → ((a : ℕ) → tally a (node 0 Root t none) ≤ 1) → (a : ℕ) → on a t ≡ true → on a (page_shape bare) ≡ false
@@ -110,7 +94,7 @@ put_together lines links source s below m t g own memo nodes_are next tree =
     (λ i. numbered_as (looks_own i) (trees i)) ∙ numbers_back (carried bare shape) shape in
     let same : page_in s ≡ page = (λ i. record { nodes = all i; next = count i }) in
     let children : shown (numbered (carried bare shape) shown_nodes) ≡ below =
-    ap shown (sym (numbers_shown (carried bare shape) shown_nodes)) ∙ (ap (kids 0) (scratch_law lines eval t g) ∙ sym first) in
+    ap shown (sym (by_number_with (carried bare shape) shown_nodes)) ∙ (ap (kids 0) (scratch_law lines eval t g) ∙ sym first) in
     record {
       keeps = record {
         memo = memo;

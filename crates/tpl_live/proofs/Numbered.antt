@@ -1,10 +1,10 @@
 -- The numbers of a page's nodes by address.
-use Rattle.std.proofs.Common.{◌≡◌, ℕ, ◌+◌, ◌<◌, ◌≤◌, ◌==◌, ◌||◌, true, false, cond, Option, Some, None, List, [], ◌∷◌, ◌++◌, append-nil, length, length-append, map, refl, sym, ap, subst, ◌∙◌, arith, eqb-true, inl, inr}
+use Rattle.std.proofs.Common.{◌≡◌, ℕ, ◌+◌, ◌<◌, ◌≤◌, ◌==◌, true, false, cond, Option, Some, None, List, [], ◌∷◌, ◌++◌, append-nil, length, length-append, refl, sym, ap, subst, ◌∙◌, arith, eqb-true, inl, inr}
 use Rattle.std.proofs.lemmas.Bool.{cases_Bool}
-use Rattle.page_model.specs.Forest.{Forest, keys, kids, label_in, node, none, on, one, tally}
+use Rattle.page_model.specs.Forest.{Forest, keys, kids, label_in, node, none, on, tally}
 use Rattle.page_model.specs.Labels.{Kind, Look, Root, shown}
 use Rattle.page_model.specs.Pages.{IsPage, NumberedPage, by_number, looks, page_shape, tree_of}
-use Rattle.page_model.proofs.Shared.{address_above}
+use Rattle.page_model.proofs.Shared.{address_above, on_looks, tally_looks}
 use Rattle.tpl_drawn.specs.Comparison.{known_of}
 use Rattle.tpl_drawn.specs.Marks.{Knows}
 use Rattle.tpl_drawn.specs.Addresses.{AreNumbersOf}
@@ -12,10 +12,6 @@ use Rattle.tpl_model.specs.ShownNodes.Addresses.{address_of}
 use Rattle.tpl_model.specs.declared.shown.Address.{Address}
 
 -- ---- what is known
-
-on_looks : (j : ℕ) (t : Forest (ℕ × Look)) → on j (looks t) ≡ on j t
-on_looks j none = refl
-on_looks j (node a x k r) = (λ i. (a == j) || (on_looks j k i || on_looks j r i))
 
 -- the numbers of the nodes below the root are those of the page
 pub knows_page : (p : NumberedPage) (below : Forest (ℕ × Look)) (number : Address → Option ℕ) → p.nodes ≡ node 0 (0, Root) below none → AreNumbersOf number below →
@@ -44,14 +40,6 @@ keys_looks (node a x k r) = (λ i. a ∷ (keys_looks k i ++ keys_looks r i))
 pub keys_shown : (t : Forest Look) → keys (shown t) ≡ keys t
 keys_shown none = refl
 keys_shown (node a x k r) = (λ i. a ∷ (keys_shown k i ++ keys_shown r i))
-
-pub tally_looks : (j : ℕ) (t : Forest (ℕ × Look)) → tally j (looks t) ≡ tally j t
-tally_looks j none = refl
-tally_looks j (node a x k r) = (λ i. one (a == j) + (tally_looks j k i + tally_looks j r i))
-
-pub many_mapped : {A B : Type 0} (f : A → B) (xs : List A) → length (map f xs) ≡ length xs
-many_mapped f [] = refl
-many_mapped f (x ∷ xs) = (let i = many_mapped f xs in omega (arith, i))
 
 -- the addresses and the numbers of a page's nodes, both in document order
 pub record AreListed (addresses numbers : List ℕ) (below : Forest (ℕ × Look)) : Type 0 where

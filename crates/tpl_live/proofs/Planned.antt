@@ -2,7 +2,7 @@
 use Rattle.std.proofs.Common.{◌≡◌, ℕ, ◌+◌, ◌<◌, Bool, Option, List, [], ◌∷◌, ◌++◌, append_assoc, drop, get_or, length, map, refl, sym, ap, subst, ◌∙◌, arith}
 use Rattle.std.specs.List.{flat_map}
 use Rattle.std.specs.List.Sorted.{IsNonDecreasingBy}
-use Rattle.std.proofs.lemmas.List.{drop_more}
+use Rattle.std.proofs.lemmas.List.{drop_more, length-map}
 use Rattle.page_model.specs.Edits.{ascending, listed}
 use Rattle.page_model.specs.Forest.{Forest, none}
 use Rattle.page_model.specs.Labels.{Kind, Look}
@@ -24,7 +24,6 @@ use Rattle.tpl_model.specs.PageUpdates.PageMemos.{PageMemo}
 use Rattle.tpl_live.specs.Pages.{lines_shape}
 use Rattle.tpl_live.specs.Plans.{AllBring, Compares, LeadOn, children_staying, numbers_of, ops_towards}
 use Rattle.tpl_live.proofs.Inserted.{first_done}
-use Rattle.tpl_live.proofs.Numbered.{many_mapped}
 use Rattle.tpl_live.proofs.Operated.{Operate, lead_on}
 use Rattle.tpl_live.proofs.Orders.{Rising, rising}
 
@@ -71,7 +70,7 @@ pub many_come : (p : NumberedPage) (shape : Forest Look) (ts rs : List Marked) (
     n ≡ number_behind next ts → map address_of coming ≡ coming_below ts → n ≡ next + length coming
 many_come p shape ts rs next n coming count o is come =
     let a : n ≡ p.next + length (new_order p shape) = is ∙ (ap (λ z. number_behind z ts) count ∙ o.next) in
-    let b : length coming ≡ length (new_order p shape) = sym (many_mapped address_of coming) ∙ ap length (come ∙ o.order) in
+    let b : length coming ≡ length (new_order p shape) = sym (length-map coming address_of) ∙ ap length (come ∙ o.order) in
     omega (arith, a, b, count)
 
 -- ---- operations one after the other

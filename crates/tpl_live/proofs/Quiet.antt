@@ -8,7 +8,7 @@ use Rattle.signal_model.specs.Signals.{Signals}
 use Rattle.page_model.specs.Forest.{Forest, kids, label_in, node, none, on, tally}
 use Rattle.page_model.specs.Labels.{Look, Root}
 use Rattle.page_model.specs.Pages.{IsPage, NumberedPage, by_number, carried, edits_between, looks, new_order, newcomers, number_of, page_shape, renumbered, with_numbers}
-use Rattle.page_model.proofs.Shared.{edits_none, on_kids, on_tally}
+use Rattle.page_model.proofs.Shared.{edits_none, on_kids, on_tally, tally_looks}
 use Rattle.tpl_model.specs.Lines.{Line}
 use Rattle.tpl_model.specs.Sources.{template_shape}
 use Rattle.tpl_model.specs.PageUpdates.Updates.{memo_on, memo_shape}
@@ -17,7 +17,6 @@ use Rattle.tpl_hearing.specs.Heard.{AreFromScratch, Hears, Outcomes, Scene}
 use Rattle.tpl_hearing.proofs.Shared.{heard_scratch}
 use Rattle.tpl_model.specs.KeptLines.Memos.{Makes, lines_memo}
 use Rattle.tpl_live.specs.Pages.{Standing, Stands, outcome_in, page_in}
-use Rattle.tpl_live.proofs.Numbered.{tally_looks}
 use Rattle.tpl_live.proofs.Renewed.{IsCarried}
 use Rattle.tpl_live.proofs.Sourced.{made_on, made_right}
 

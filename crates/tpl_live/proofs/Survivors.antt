@@ -1,27 +1,20 @@
 -- Of the children of nodes that are compared, those stay whose numbers are said to: they are on the next page too.
-use Rattle.std.proofs.Common.{◌≡◌, ℕ, ◌==◌, Bool, true, false, cond, not, Some, None, List, [], ◌∷◌, ◌++◌, map, refl, sym, ap, ◌∙◌, eqb-true, eq-eqb, inl, inr}
+use Rattle.std.proofs.Common.{◌≡◌, ℕ, ◌==◌, Bool, true, false, cond, not, Some, None, List, [], ◌∷◌, ◌++◌, map, refl, sym, ap, ◌∙◌, eq-eqb, inl, inr}
 use Rattle.std.specs.List.{flat_map}
 use Rattle.std.proofs.lemmas.Bool.{cases_Bool, false≢true, true≢false, or_cases}
 use Rattle.page_model.specs.Edits.{listed, siblings}
 use Rattle.page_model.specs.Forest.{Forest, none, node, kids, on}
 use Rattle.page_model.specs.Labels.{Look}
 use Rattle.page_model.specs.Pages.{IsPage, IsShape, NumberedPage, SameOrigin, number_of, page_shape, those, tree_of}
-use Rattle.page_model.proofs.Shared.{or_left, or_right}
+use Rattle.page_model.proofs.Shared.{or_left, or_right, in_flat}
 use Rattle.tpl_drawn.specs.Comparison.{Each, IsTouched, known_of}
 use Rattle.tpl_model.specs.NextPage.Lookups.{TellsKept, gone_numbers}
-use Rattle.tpl_model.proofs.Shared.{child_on, children_read, from_those, in_map, map_in, stays_child, to_those, in_both}
+use Rattle.tpl_model.proofs.Shared.{child_on, children_read, from_those, in_map, map_in, stays_child, to_those, in_both, flat_same}
 use Rattle.tpl_drawn.specs.Marks.{children_in, next_of}
 use Rattle.tpl_model.specs.ShownNodes.Shapes.{Marked, Next}
 use Rattle.tpl_live.specs.Plans.{children_staying, numbers_staying}
 
 -- ---- lists
-
-in_flat : (f : ℕ → List ℕ) (n a : ℕ) (ws : List ℕ) → listed a ws ≡ true → listed n (f a) ≡ true → listed n (flat_map f ws) ≡ true
-in_flat f n a [] h i = absurd (false≢true h)
-in_flat f n a (w ∷ ws) h i = in_both n (f w) (flat_map f ws) ∙ elim (or_cases (w == a) (listed a ws) h) [
-  | inl e ↦ or_left (listed n (f w)) (listed n (flat_map f ws)) (ap (λ z. listed n (f z)) (eqb-true w a e) ∙ i)
-  | inr e ↦ or_right (listed n (f w)) (listed n (flat_map f ws)) (in_flat f n a ws e i)
-]
 
 from_flat : (f : ℕ → List ℕ) (n : ℕ) (ws : List ℕ) → listed n (flat_map f ws) ≡ true → (a : ℕ) × (listed a ws ≡ true) × (listed n (f a) ≡ true)
 from_flat f n [] h = absurd (false≢true h)
@@ -106,13 +99,6 @@ gone_same p f g a q o h =
 pub record AreAlike (p : NumberedPage) (f g : ℕ → Bool) (ws : List ℕ) : Type 0 where
   pub there : (a : ℕ) → listed a ws ≡ true → on a (page_shape p) ≡ true
   pub alike : (a : ℕ) → listed a ws ≡ true → SayAlike p f g a
-
-flat_same : {X : Type 0} (f g : ℕ → List X) (xs : List ℕ) → ((j : ℕ) → listed j xs ≡ true → f j ≡ g j) → flat_map f xs ≡ flat_map g xs
-flat_same f g [] h = refl
-flat_same f g (x ∷ xs) h =
-    let e = h x (or_left (x == x) (listed x xs) (eq-eqb x x refl)) in
-    let i = flat_same f g xs (λ j k. h j (or_right (x == j) (listed j xs) k)) in
-    (λ t. e t ++ i t)
 
 pub gone_alike : (p : NumberedPage) (f g : ℕ → Bool) (ws : List ℕ) → IsPage p → AreAlike p f g ws →
     flat_map (gone_numbers f (tree_of p)) (map (number_of p) ws) ≡ flat_map (gone_numbers g (tree_of p)) (map (number_of p) ws)

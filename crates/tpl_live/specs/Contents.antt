@@ -8,5 +8,13 @@ use Rattle.tpl_live.specs.declared.page.Page.{Page}
 
 -- a page that stands
 abbrev pub standing : Page → Standing
-standing p =
-    record { lines = block p.lines.value; links = p.links.items; heard = p.heard; memo = kept p.memo.value; next = p.nodes.next; tree = p.nodes.tree; number = number_at p.nodes.numbers; line = line_at p.nodes.numbers }
+standing p = record {
+  lines = block p.lines.value;
+  links = p.links.items;
+  heard = p.heard;
+  memo = kept p.memo.value;
+  next = p.nodes.next;
+  tree = p.nodes.tree;
+  number = number_at p.nodes.numbers;
+  line = line_at p.nodes.numbers;
+}

@@ -102,3 +102,9 @@ Leads os tree = IsDone (replay os tree)
 pub record AreInserted (below : Forest Kind) : Type 0 where
   pub nodes : AreNodes below
   pub leads : replay (inserts 0 below) (node 0 Root none none) ≡ Done (node 0 Root below none)
+
+-- these are the insertions of such nodes
+pub record AreInsertions (os : List Op) : Type 0 where
+  pub below : Forest Kind
+  pub inserted : AreInserted below
+  pub are : os ≡ inserts 0 below

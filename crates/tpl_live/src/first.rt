@@ -1,19 +1,17 @@
 // The first nodes of a page, and the operations that lead to them.
-ghost use Rattle.std.specs.Prelude.{◌≡◌, ◌+◌, map, length, IfOk, OnOk};
-ghost use Rattle.page_model.specs.Forest.{keys, node, none};
-ghost use Rattle.page_model.specs.Labels.{Root, Sound};
+ghost use Rattle.std.specs.Prelude.{◌≡◌, ◌+◌, map, length, IfOk};
+ghost use Rattle.page_model.specs.Forest.{Forest, keys, node, none};
+ghost use Rattle.page_model.specs.Labels.{Kind, Root, Sound};
 ghost use Rattle.page_model.specs.Pages.{NumberedPage, IsPage, page_shape, tree_of};
-ghost use Rattle.page_model.specs.Replay.{replay, Done};
-ghost use Rattle.page_model.specs.Trees.{AreNodes};
 ghost use Rattle.page_ops.specs.Ops.{op_of};
 ghost use Rattle.page_tree.specs.Subs.{side_by_side, sub_tree};
 ghost use Rattle.tpl_blocks.specs.Blocks.{block};
 ghost use Rattle.tpl_model.specs.KeptLines.Kept.{kept};
 ghost use Rattle.tpl_drawn.specs.Addresses.{number_at};
 ghost use Rattle.tpl_drawn.specs.Lines.{line_at};
-ghost use Rattle.tpl_live.specs.Pages.{below_in, inserts, lines_shape, shown_in, AreInserted, AreKnown, AreLined, Leads};
+ghost use Rattle.tpl_live.specs.Pages.{below_in, inserts, lines_shape, shown_in, AreInserted, AreInsertions, AreKnown, AreLined};
 
-use crate::plan::read_numbers;
+use crate::plan::{apply_all, read_numbers};
 use page_ops::Op;
 use page_tree::{Sub, Tree};
 use sig_base::NoMemory;
@@ -31,35 +29,6 @@ pub struct First {
     pub ops: Vec<Op>,
 }
 
-// Inserts nodes below the root, one behind the other.
-fn insert_all(alloc: Global, tree: &mut Tree, subs: &[Sub]) -> Result<(), NoMemory>
-    requires nodes { AreNodes (side_by_side (map sub_tree subs.now)) }
-    requires leads { Leads (inserts 0 (side_by_side (map sub_tree subs.now))) tree.old }
-    ensures { OnOk result (replay (inserts 0 (side_by_side (map sub_tree subs.now))) tree.old ≡ Done tree.new) }
-{
-    for (place, sub) in subs.iter().enumerate() {
-        // a subtree is one node, whatever stands below it
-        let _ = sub.number();
-        let copy = sub.copy(alloc)?;
-        tree.insert(alloc, 0, place, copy)?;
-    }
-    Ok(())
-}
-
-/// The tree of nodes below the root.
-///
-/// # Errors
-///
-/// `NoMemory` alone.
-pub fn tree_below(alloc: Global, subs: &[Sub]) -> Result<Tree, NoMemory>
-    requires { AreInserted (side_by_side (map sub_tree subs.now)) }
-    ensures { IfOk result (λ tree. tree ≡ node 0 Root (side_by_side (map sub_tree subs.now)) none) }
-{
-    let mut tree = Tree::new(alloc)?;
-    insert_all(alloc, &mut tree, subs)?;
-    Ok(tree)
-}
-
 // The insertions of nodes below the root, one behind the other.
 fn insertions(alloc: Global, subs: Vec<Sub>) -> Result<Vec<Op>, NoMemory>
     ensures { IfOk result (λ ops. map op_of ops.items ≡ inserts 0 (side_by_side (map sub_tree subs.items))) }
@@ -71,6 +40,30 @@ fn insertions(alloc: Global, subs: Vec<Sub>) -> Result<Vec<Op>, NoMemory>
         ops.push(Op::Insert(0, place, sub))?;
     }
     Ok(ops)
+}
+
+// The tree to which insertions below the root lead.
+fn tree_by(alloc: Global, ops: &[Op]) -> Result<Tree, NoMemory>
+    requires { AreInsertions (map op_of ops.now) }
+    ensures { (below : Forest Kind) → AreInserted below → map op_of ops.now ≡ inserts 0 below → IfOk result (λ tree. tree ≡ node 0 Root below none) }
+{
+    let mut tree = Tree::new(alloc)?;
+    apply_all(alloc, &mut tree, ops)?;
+    Ok(tree)
+}
+
+/// The tree of nodes below the root.
+///
+/// # Errors
+///
+/// `NoMemory` alone.
+pub fn tree_below(alloc: Global, subs: Vec<Sub>) -> Result<Tree, NoMemory>
+    requires { AreInserted (side_by_side (map sub_tree subs.items)) }
+    ensures { IfOk result (λ tree. tree ≡ node 0 Root (side_by_side (map sub_tree subs.items)) none) }
+{
+    let ops = insertions(alloc, subs)?;
+    let tree = tree_by(alloc, &ops)?;
+    Ok(tree)
 }
 
 /// The first nodes of a page, by what is kept of its lines: these are shown once, and tree, operations and numbers are made of that. The two
@@ -95,9 +88,9 @@ pub fn first_nodes(alloc: Global, lines: &Block, memo: &PageMemo) -> Result<Firs
     let mut out = Nodes::new(alloc);
     put_nodes(alloc, &shown, &mut out)?;
     let Nodes { subs, next } = out;
-    let tree = tree_below(alloc, &subs)?;
-    let numbers = read_numbers(alloc, shown, &tree)?;
     let ops = insertions(alloc, subs)?;
+    let tree = tree_by(alloc, &ops)?;
+    let numbers = read_numbers(alloc, shown, &tree)?;
     let nodes = PageNodes {
         tree,
         numbers,

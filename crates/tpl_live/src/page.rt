@@ -83,8 +83,7 @@ impl Page {
     pub fn parent_of(&self, id: u64) -> Option<u64>
         ensures { result ≡ (if below_root id (standing self.now).tree then Some (parent id (standing self.now).tree) else None) }
     {
-        let (parent, _) = self.nodes.tree.place_of(id)?;
-        Some(parent)
+        self.nodes.tree.parent_of(id)
     }
 
     /// A page of a template whose names are these signals, up to date, and the operations that make it of the bare page: the names that

@@ -3,8 +3,7 @@ ghost use Rattle.std.specs.Prelude.{◌≡◌, ◌<◌, ◌^◌, ◌+◌, ◌++�
 ghost use Rattle.page_model.specs.Forest.{Forest, keys, node, none};
 ghost use Rattle.page_model.specs.Labels.{Kind, Root};
 ghost use Rattle.page_model.specs.Pages.{NumberedPage, IsPage, new_order, page_shape, renumbered, tree_of};
-ghost use Rattle.page_model.specs.Replay.{do_op, replay, Done};
-ghost use Rattle.page_model.specs.Trees.{Brings};
+ghost use Rattle.page_model.specs.Replay.{replay, Done};
 ghost use Rattle.page_ops.specs.Ops.{op_of};
 ghost use Rattle.page_tree.specs.Queries.{IsDone};
 ghost use Rattle.tpl_blocks.specs.Blocks.{block};
@@ -18,7 +17,7 @@ ghost use Rattle.tpl_model.specs.ShownNodes.Shapes.{all_shown, child_of, mark_of
 ghost use Rattle.tpl_live.specs.Pages.{lines_shape, shown_in, AreKnown, AreLined};
 ghost use Rattle.tpl_live.specs.Plans.{children_staying, number_staying, keeps_children, moving, numbers_of as numbers_in, numbers_staying, ops_towards, AllBring, CanCompare, Carries, Compares, LeadOn};
 
-use page_ops::{Op, apply};
+use page_ops::{Op, perform};
 use page_tree::Tree;
 use sig_base::NoMemory;
 use std::alloc::Global;
@@ -231,26 +230,18 @@ fn planned(
     Ok(plan)
 }
 
-// Does an operation that isn't refused.
-fn apply_one(alloc: Global, tree: &mut Tree, op: &Op) -> Result<(), NoMemory>
-    requires brings { Brings (op_of op.now) }
-    requires fits { IsDone (do_op (op_of op.now) tree.old) }
-    ensures { OnOk result (do_op (op_of op.now) tree.old ≡ Done tree.new) }
-{
-    match apply(alloc, tree, op) {
-        Ok(()) => Ok(()),
-        Err(_) => Err(NoMemory),
-    }
-}
-
-// Does operations one after the other, none of which is refused.
-fn apply_all(alloc: Global, tree: &mut Tree, ops: &[Op]) -> Result<(), NoMemory>
+/// Does operations one after the other, none of which is refused.
+///
+/// # Errors
+///
+/// `NoMemory` alone; some may then be done.
+pub fn apply_all(alloc: Global, tree: &mut Tree, ops: &[Op]) -> Result<(), NoMemory>
     requires brings { AllBring (map op_of ops.now) }
     requires leads { IsDone (replay (map op_of ops.now) tree.old) }
     ensures { OnOk result (replay (map op_of ops.now) tree.old ≡ Done tree.new) }
 {
     for op in ops {
-        apply_one(alloc, tree, op)?;
+        perform(alloc, tree, op)?;
     }
     Ok(())
 }

@@ -80,7 +80,7 @@ pub fn tree_from_scratch(
             ScratchStep::Ask(name) => name as usize,
             ScratchStep::Page(subs) => {
                 heard.good();
-                let tree = tree_below(alloc, &subs)?;
+                let tree = tree_below(alloc, subs)?;
                 return Ok(tree);
             }
         };

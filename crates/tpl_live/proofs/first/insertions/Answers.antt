@@ -1,9 +1,10 @@
 use Rattle.std.proofs.Common.{◌≡◌, ◌+◌, ◌++◌, [], ◌∷◌, length, map, refl, sym, ap, ◌∙◌, arith, append-nil}
 use Rattle.std.proofs.lemmas.List.{map-append}
+use Rattle.page_tree.proofs.Shared.{no_items}
 use Rattle.page_ops.specs.Ops.{op_of}
 use Rattle.page_tree.specs.Subs.{insertion, side_by_side, sub_tree}
 use Rattle.tpl_live.specs.Pages.{inserts}
-use Rattle.tpl_live.proofs.Inserted.{no_items, one_longer, one_written}
+use Rattle.tpl_live.proofs.Inserted.{one_longer, one_written}
 use Rattle.tpl_live.proofs.first.insertions.Goals as goal
 
 pub loop-sub-init : goal.loop-sub-init

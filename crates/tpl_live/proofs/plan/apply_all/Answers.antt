@@ -8,26 +8,20 @@ use Rattle.tpl_live.proofs.plan.apply_all.Goals as goal
 pub loop-op-init : goal.loop-op-init
 loop-op-init c = record { leads = refl; brings = c.requires.brings }
 
-pub apply_one-requires-clause-brings : goal.apply_one-requires-clause-brings
-apply_one-requires-clause-brings c =
+pub perform-requires : goal.perform-requires
+perform-requires c =
     let ops = c.args.ops.now in
     let i = c.loop-op.op-index in
-    (next_fits (map op_of (drop i ops)) (map op_of (drop (i + 1) ops)) (op_of c.op-item.result) c.loop-op.tree (replay (map op_of ops) c.args.tree.now)
-    (left_split op_of ops i c.op-item.result c.loop-op-test.true c.op-item.is) c.loop-op.invariant c.requires.leads).brings
-
-pub apply_one-requires-clause-fits : goal.apply_one-requires-clause-fits
-apply_one-requires-clause-fits c =
-    let ops = c.args.ops.now in
-    let i = c.loop-op.op-index in
-    (next_fits (map op_of (drop i ops)) (map op_of (drop (i + 1) ops)) (op_of c.op-item.result) c.loop-op.tree (replay (map op_of ops) c.args.tree.now)
-    (left_split op_of ops i c.op-item.result c.loop-op-test.true c.op-item.is) c.loop-op.invariant c.requires.leads).fits
+    let next = next_fits (map op_of (drop i ops)) (map op_of (drop (i + 1) ops)) (op_of c.op-item.result) c.loop-op.tree (replay (map op_of ops) c.args.tree.now)
+    (left_split op_of ops i c.op-item.result c.loop-op-test.true c.op-item.is) c.loop-op.invariant c.requires.leads in
+    record { nodes = next.brings; fits = next.fits }
 
 pub loop-op-preserved : goal.loop-op-preserved
 loop-op-preserved c =
     let ops = c.args.ops.now in
     let i = c.loop-op.op-index in
-    next_done (map op_of (drop i ops)) (map op_of (drop (i + 1) ops)) (op_of c.op-item.result) c.loop-op.tree c.apply_one.new.tree (replay (map op_of ops) c.args.tree.now)
-    (left_split op_of ops i c.op-item.result c.loop-op-test.true c.op-item.is) c.loop-op.invariant c.in_ok-apply_one.ensures
+    next_done (map op_of (drop i ops)) (map op_of (drop (i + 1) ops)) (op_of c.op-item.result) c.loop-op.tree c.perform.new.tree (replay (map op_of ops) c.args.tree.now)
+    (left_split op_of ops i c.op-item.result c.loop-op-test.true c.op-item.is) c.loop-op.invariant c.in_ok-perform.ensures
 
 pub returns : goal.returns
 returns c =

@@ -1,7 +1,7 @@
 use Rattle.std.proofs.Common.{◌++◌, ◌∷◌, [], append-nil, if◌then◌else◌, map, sym, ap, ◌∙◌}
+use Rattle.page_tree.proofs.Shared.{no_items}
 use Rattle.tpl_model.specs.ShownNodes.Shapes.{Marked, mark_of}
 use Rattle.tpl_live.specs.Plans.{keeps_children, moving}
-use Rattle.tpl_live.proofs.LeftOut.{no_items}
 use Rattle.tpl_live.proofs.Planned.{one_more}
 use Rattle.tpl_live.proofs.plan.moving.Goals as goal
 

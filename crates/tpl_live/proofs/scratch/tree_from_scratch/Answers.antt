@@ -25,18 +25,16 @@ pub tree_below-requires : goal.tree_below-requires
 tree_below-requires g c =
     let lines = lines_of c.args.template.now in
     let shown = subst (IsScratch c.deref.result.now lines) c.in-Page.is c.in_ok-name.ensures in
-    let below = side_by_side (map sub_tree c.deref-in-Page.result.now) in
-    let is : below ≡ known_page c.asking.known.items lines = ap (λ xs. side_by_side (map sub_tree xs)) c.deref-in-Page.ensures.value
-    ∙ (shown.1 ∙ ap (λ k. known_page k lines) c.deref.ensures.value) in
+    let below = side_by_side (map sub_tree c.in-Page.subs.items) in
+    let is : below ≡ known_page c.asking.known.items lines = shown.1 ∙ ap (λ k. known_page k lines) c.deref.ensures.value in
     known_inserted _ _ _ _ lines c.args.links.now c.asking.known.items c.asking.heard below c.asking.invariant.learning c.good.ensures c.requires.template is
 
 pub returns-in-Page-clause-tree : goal.returns-in-Page-clause-tree
 returns-in-Page-clause-tree g c = λ hosts all kept.
     let lines = lines_of c.args.template.now in
     let shown = subst (IsScratch c.deref.result.now lines) c.in-Page.is c.in_ok-name.ensures in
-    let below = side_by_side (map sub_tree c.deref-in-Page.result.now) in
-    let is : below ≡ known_page c.asking.known.items lines = ap (λ xs. side_by_side (map sub_tree xs)) c.deref-in-Page.ensures.value
-    ∙ (shown.1 ∙ ap (λ k. known_page k lines) c.deref.ensures.value) in
+    let below = side_by_side (map sub_tree c.in-Page.subs.items) in
+    let is : below ≡ known_page c.asking.known.items lines = shown.1 ∙ ap (λ k. known_page k lines) c.deref.ensures.value in
     let end : needed c.asking.known.items lines ≡ None = ap (λ k. needed k lines) (sym c.deref.ensures.value) ∙ shown.0 in
     known_tree _ _ _ _ lines c.args.links.now c.asking.known.items c.asking.heard below c.in_ok-tree-in-Page.tree c.asking.invariant.learning c.good.ensures
     c.requires.template end is c.in_ok-tree-in-Page.ensures hosts all kept

@@ -1,5 +1,4 @@
 use Rattle.std.proofs.Common.{◌∙◌}
-use Rattle.tpl_drawn.specs.Lines.{line_at}
 use Rattle.tpl_live.specs.Contents.{standing}
 use Rattle.tpl_live.specs.Pages.{page_in}
 use Rattle.tpl_live.proofs.Lined.{line_there}

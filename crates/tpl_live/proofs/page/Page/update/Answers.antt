@@ -23,28 +23,20 @@ hear_all_again-requires-clause-can g c =
     let room = c.requires.room in
     record { idle = c.requires.idle; there = c.requires.there; worn = omega (arith, worn); room = omega (arith, room) }
 
-pub returns-in_default-clause-stands : goal.returns-in_default-clause-stands
-returns-in_default-clause-stands g c = λ lines links st. st
-
-pub returns-in_default-clause-page : goal.returns-in_default-clause-page
-returns-in_default-clause-page g c = λ lines links st hosts all stay.
+pub returns-in_default : goal.returns-in_default
+returns-in_default g c =
     let s = standing c.args.self.now in
-    (is_quiet _ _ _ _ lines links [] s.heard s hosts refl (all_heard _ _ _ _ _ s.heard c.in_default.is c.in_ok-front.ensures.after) all stay st
-    (made_still lines links s st)).page
-
-pub returns-in_default-clause-ops : goal.returns-in_default-clause-ops
-returns-in_default-clause-ops g c = λ lines links st hosts all stay.
-    let s = standing c.args.self.now in
-    ap (map op_of) c.new.ensures.items
-    ∙ (is_quiet _ _ _ _ lines links [] s.heard s hosts refl (all_heard _ _ _ _ _ s.heard c.in_default.is c.in_ok-front.ensures.after) all stay st
-    (made_still lines links s st)).ops
-
-pub returns-in_default-clause-settles : goal.returns-in_default-clause-settles
-returns-in_default-clause-settles g c = λ lines links st.
-    let s = standing c.args.self.now in
-    let made = made_still lines links s st in
-    settled_right _ _ _ _ lines links [] s.heard s.memo refl (all_heard _ _ _ _ _ s.heard c.in_default.is c.in_ok-front.ensures.after)
-    (made_on lines s.lines links s.heard s.memo st.block made) made.order
+    let heard = all_heard _ _ _ _ _ s.heard c.in_default.is c.in_ok-front.ensures.after in
+    record {
+      stands = λ lines links st. st;
+      page = λ lines links st hosts all stay. (is_quiet _ _ _ _ lines links [] s.heard s hosts refl heard all stay st (made_still lines links s st)).page;
+      ops = λ lines links st hosts all stay. ap (map op_of) c.new.ensures.items
+          ∙ (is_quiet _ _ _ _ lines links [] s.heard s hosts refl heard all stay st (made_still lines links s st)).ops;
+      settles = λ lines links st.
+          let made = made_still lines links s st in
+          settled_right _ _ _ _ lines links [] s.heard s.memo refl heard (made_on lines s.lines links s.heard s.memo st.block made) made.order;
+      counted = c.in_ok-front.ensures.counted;
+    }
 
 pub renew-requires-clause-was : goal.renew-requires-clause-was
 renew-requires-clause-was g c = rw (c.deref.ensures, c.deref-2.ensures.value, c.replace-was.ensures.value) (was_made_there c.requires.stands.lines c.requires.stands.links (standing c.args.self.now) c.requires.stands.stands)
