@@ -1,7 +1,8 @@
 -- A formula that is asked again with each value that it reads.
-use Rattle.std.proofs.Common.{◌≡◌, ℕ, zero, suc, ◌+◌, ◌<◌, refl, sym, ap, subst, ◌∙◌, arith, List, [], ◌∷◌, ◌++◌, length, Option, Some, None}
+use Rattle.std.proofs.Common.{◌≡◌, ℕ, ◌<◌, refl, sym, ap, subst, ◌∙◌, arith, List, [], ◌∷◌, length, Option, Some, None}
 use Rattle.std.specs.Prelude.{slice_index}
 use Rattle.std.specs.List.{slice_get}
+use Rattle.tpl_model.proofs.Shared.{counted_at, counted_length}
 use Rattle.sig_base.specs.declared.value.Value.{Value}
 use Rattle.sig_base.specs.declared.value.Fault.{Fault}
 use Rattle.sig_base.specs.declared.value.Fault.TheVariants.{Gone}
@@ -17,21 +18,10 @@ use Rattle.signal_model.specs.Recipes.{no_hosts, judged, IsJudged, IsUnknownSlot
 use Rattle.signal_model.specs.Sound.{names_of}
 use Rattle.signal_model.specs.Values.{Evaluation, after_read, after_step, asked_from, ended, learnt, read_first, unknown_slots}
 use Rattle.signal_model.proofs.Shared.{asked_by_steps, unknown_less}
-use Rattle.tpl_model.specs.Sources.{counted, first_missing, is_there, on_known, or_gone}
+use Rattle.tpl_model.specs.Sources.{counted, first_missing, on_known, or_gone}
 use Rattle.tpl_scratch.specs.declared.stop.Stop.{Stop}
 use Rattle.tpl_scratch.specs.declared.stop.Stop.TheVariants as stop
 use Rattle.tpl_scratch.specs.Pages.{answered, recipe_on, IsFound, IsNeed, Stops}
-
--- ---- names that are their places
-
-counted_length : (n i : ℕ) → length (counted n i) ≡ n
-counted_length zero i = refl
-counted_length (suc n) i = ap suc (counted_length n (suc i))
-
-counted_at : (n i s : ℕ) → s < n → slice_index (counted n i) s ≡ i + s
-counted_at zero i s h = absurd (omega arith)
-counted_at (suc n) i zero h = omega arith
-counted_at (suc n) i (suc s) h = (let e = counted_at n (suc i) s (omega arith) in e ∙ omega arith)
 
 -- ---- one answer
 

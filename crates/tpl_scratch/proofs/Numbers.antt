@@ -1,19 +1,12 @@
 -- Nodes that are added one after the other.
 use Rattle.std.proofs.Common.{◌≡◌, ℕ, suc, ◌+◌, refl, sym, ap, ◌∙◌, arith, List, [], ◌∷◌, ◌++◌, map, length, length-append, Option}
+use Rattle.page_model.proofs.Shared.{after_none, after_assoc}
 use Rattle.page_model.specs.Forest.{Forest, none, node, after, keys}
 use Rattle.page_model.specs.Labels.{Text, Element, Kind, Look, present, seen, shown}
 use Rattle.page_tree.specs.declared.sub.Sub.{Sub}
 use Rattle.page_tree.specs.Subs.{side_by_side, sub_tree}
 use Rattle.tpl_model.specs.Sources.{in_order}
 use Rattle.tpl_scratch.specs.Pages.{Numbered, with_nodes}
-
-pub after_none : {A : Type 0} (x : Forest A) → after x none ≡ x
-after_none none = refl
-after_none (node m l k r) = ap (λ t. node m l k t) (after_none r)
-
-pub after_after : {A : Type 0} (x y z : Forest A) → after (after x y) z ≡ after x (after y z)
-after_after none y z = refl
-after_after (node m l k r) y z = ap (λ t. node m l k t) (after_after r y z)
 
 shown_after : (x y : Forest Look) → shown (after x y) ≡ after (shown x) (shown y)
 shown_after none y = refl
@@ -51,7 +44,7 @@ with_none n = same_numbered (after n.nodes none) n.nodes (n.next + 0) n.next (af
 pub with_after : (n : Numbered) (f g : Forest Look) → with_nodes (with_nodes n f) g ≡ with_nodes n (after f g)
 with_after n f g =
     let m = n.next + length (keys f) in
-    let e = after_after n.nodes (shown (in_order n.next f)) (shown (in_order m g)) in
+    let e = after_assoc n.nodes (shown (in_order n.next f)) (shown (in_order m g)) in
     let h = ap shown (order_after n.next f g) ∙ shown_after (in_order n.next f) (in_order m g) in
     let k = keys_after f g in
     same_numbered (after (after n.nodes (shown (in_order n.next f))) (shown (in_order m g))) (after n.nodes (shown (in_order n.next (after f g))))
@@ -77,13 +70,13 @@ with_element n a name xs k values children e f =
 pub side_more : (subs : List Sub) (s : Sub) → side_by_side (map sub_tree (subs ++ s ∷ [])) ≡ after (side_by_side (map sub_tree subs)) (sub_tree s)
 side_more [] s = after_none (sub_tree s)
 side_more (x ∷ xs) s =
-    ap (λ t. after (sub_tree x) t) (side_more xs s) ∙ sym (after_after (sub_tree x) (side_by_side (map sub_tree xs)) (sub_tree s))
+    ap (λ t. after (sub_tree x) t) (side_more xs s) ∙ sym (after_assoc (sub_tree x) (side_by_side (map sub_tree xs)) (sub_tree s))
 
 -- more subtrees
 pub side_append : (subs more : List Sub) → side_by_side (map sub_tree (subs ++ more)) ≡ after (side_by_side (map sub_tree subs)) (side_by_side (map sub_tree more))
 side_append [] more = refl
 side_append (x ∷ xs) more =
-    ap (λ t. after (sub_tree x) t) (side_append xs more) ∙ sym (after_after (sub_tree x) (side_by_side (map sub_tree xs)) (side_by_side (map sub_tree more)))
+    ap (λ t. after (sub_tree x) t) (side_append xs more) ∙ sym (after_assoc (sub_tree x) (side_by_side (map sub_tree xs)) (side_by_side (map sub_tree more)))
 
 -- a subtree is appended
 pub pushed : (subs now : List Sub) (s : Sub) (t : Forest Kind) (next : ℕ) → now ≡ subs ++ s ∷ [] → sub_tree s ≡ t →

@@ -1,5 +1,5 @@
 -- What lines show, one part after the other.
-use Rattle.std.proofs.Common.{◌≡◌, ℕ, suc, ◌+◌, ◌<◌, add-one, Bool, true, false, refl, sym, ap, subst, ◌∙◌, arith, inl, inr, List, [], ◌∷◌, ◌++◌, map, length, drop, append_assoc, append-nil, Option, Some, None, Result}
+use Rattle.std.proofs.Common.{◌≡◌, ℕ, suc, ◌+◌, add-one, Bool, true, false, refl, sym, ap, subst, ◌∙◌, inl, inr, List, [], ◌∷◌, ◌++◌, length, drop, append_assoc, append-nil, Option, Some, None, Result}
 use Rattle.std.specs.List.{slice_get}
 use Rattle.std.specs.Prelude.{option_map, ◌≤◌, ◌&&◌, ◌||◌}
 use Rattle.std.specs.Result.{IfErr, IsErrAnd}
@@ -7,6 +7,8 @@ use Rattle.std.proofs.lemmas.Bool.{and_parts, and_right, cases_Bool, false≢tru
 use Rattle.std.proofs.lemmas.List.{drop_more, drop_all}
 use Rattle.std.proofs.lemmas.Option.{get_or_from_slice_get, slice_get_within}
 use Rattle.std.proofs.lemmas.Result.{err_from_is_err_and}
+use Rattle.tpl_model.proofs.Shared.{right_off}
+use Rattle.page_model.proofs.Shared.{or_none}
 use Rattle.sig_base.specs.Tables.{Table}
 use Rattle.sig_base.specs.declared.rows.Row.{Row}
 use Rattle.sig_base.specs.declared.value.Value.TheVariants as value
@@ -17,8 +19,8 @@ use Rattle.sig_formula.specs.declared.formula.RowRef.{RowRef}
 use Rattle.signal_model.specs.Sound.{names_of}
 use Rattle.signal_model.specs.Values.{Evaluation}
 use Rattle.page_model.specs.Addresses.{address}
-use Rattle.page_model.specs.Forest.{Forest, none, node, after}
-use Rattle.page_model.specs.Labels.{Text, Element, Look, present, with_value}
+use Rattle.page_model.specs.Forest.{none, node, after}
+use Rattle.page_model.specs.Labels.{Text, present, with_value}
 use Rattle.tpl_model.specs.Lines.{Block, choice, each}
 use Rattle.tpl_model.specs.Shapes.{Here, Showing, attempted, attribute_value, attributes_of, attributes_told, chosen, each_row, is_fault, key_here, node_text, nothing, row_here, shown_block, then_shown, formula_shown}
 use Rattle.tpl_model.specs.Sources.{first_missing, on_known}
@@ -26,7 +28,7 @@ use Rattle.tpl_scratch.specs.declared.show.Attributes.{Attributes}
 use Rattle.tpl_scratch.specs.declared.show.Branches.{Branches}
 use Rattle.tpl_scratch.specs.declared.stop.Stop.{Stop}
 use Rattle.tpl_scratch.specs.declared.stop.Stop.TheVariants as stop
-use Rattle.tpl_scratch.specs.Pages.{Numbered, beside, no_children, unless_ended, with_all, with_node, with_nodes, attempt_shown, each_shown, element_shown, rows_of, rows_shown, shown_where, shows_branch, text_shown}
+use Rattle.tpl_scratch.specs.Pages.{Numbered, beside, no_children, unless_ended, with_all, with_node, with_nodes, each_shown, element_shown, rows_of, rows_shown, shown_where, shows_branch, text_shown}
 use Rattle.tpl_scratch.specs.Pages.{AreBranches, HasAttributes, IsFound, IsHere, PutsAttribute, Shows, Stops}
 use Rattle.tpl_scratch.proofs.Unknowns.{missing_later, stops_first, stops_later, stops_same}
 use Rattle.tpl_scratch.proofs.Numbers.{made, with_none, with_after, with_element}
@@ -50,24 +52,9 @@ then_on : (ends : Bool) (x y : Showing) → (ends && x.failed) ≡ false →
     then_shown ends x y ≡ record { nodes = after x.nodes y.nodes; reads = x.reads ++ y.reads; failed = x.failed || y.failed }
 then_on ends x y h = rw h refl
 
-or_none : (a : Bool) → (a || false) ≡ a
-or_none true = refl
-or_none false = refl
-
 or_assoc : (a b c : Bool) → ((a || b) || c) ≡ (a || (b || c))
 or_assoc true b c = refl
 or_assoc false b c = refl
-
--- a fault of one part is one of both
-no_first : (ends a b : Bool) → (ends && (a || b)) ≡ false → (ends && a) ≡ false
-no_first true true b h = absurd cc
-no_first true false b h = refl
-no_first false a b h = refl
-
-no_later : (ends a b : Bool) → (ends && (a || b)) ≡ false → (ends && b) ≡ false
-no_later true true b h = absurd cc
-no_later true false b h = h
-no_later false a b h = refl
 
 -- showing ended, so it doesn't go on
 never_both : {A : Type 0} (ends f g : Bool) → (ends && f) ≡ true → (f ≡ true → g ≡ true) → (ends && g) ≡ false → A
@@ -92,7 +79,7 @@ then_shows known ends x y a b c f g h k = elim (cases_Bool (ends && f)) [
       subst (λ z. Shows known ends z a c (f || g)) (sym (then_on ends x y e')) (record {
         reads = missing_later known x.reads y.reads h.reads ∙ k.reads;
         fault = ap (λ z. z || g) h.fault ∙ ap (λ z. x.failed || z) k.fault;
-        nodes = λ q. k.nodes (no_later ends f g q) ∙ ap (λ n. with_nodes n y.nodes) (h.nodes e) ∙ with_after a x.nodes y.nodes;
+        nodes = λ q. k.nodes (right_off ends f g q) ∙ ap (λ n. with_nodes n y.nodes) (h.nodes e) ∙ with_after a x.nodes y.nodes;
       })
 ]
 

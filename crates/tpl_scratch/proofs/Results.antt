@@ -1,5 +1,5 @@
 -- What making a page from scratch comes to.
-use Rattle.std.proofs.Common.{◌≡◌, ℕ, Bool, false, List, Option, Some, None, Result, Ok, Err, refl, sym, ap, subst, ◌∙◌}
+use Rattle.std.proofs.Common.{◌≡◌, Bool, false, List, Option, Some, None, Result, Ok, Err, refl, ap, subst, ◌∙◌}
 use Rattle.std.specs.Result.{IfErr, IfOk}
 use Rattle.sig_base.specs.declared.value.Outcome.{Outcome}
 use Rattle.page_model.specs.Forest.{none}
@@ -10,7 +10,7 @@ use Rattle.tpl_scratch.specs.declared.stop.Stop.{Stop}
 use Rattle.tpl_scratch.specs.declared.stop.Stop.TheVariants as stop
 use Rattle.tpl_scratch.specs.declared.scratch.ScratchStep.{ScratchStep}
 use Rattle.tpl_scratch.specs.declared.scratch.ScratchStep.TheVariants as step
-use Rattle.tpl_scratch.specs.Pages.{Numbered, Shows, Stops, with_nodes}
+use Rattle.tpl_scratch.specs.Pages.{Numbered, Shows, Stops}
 use Rattle.tpl_scratch.specs.Scratch.{Comes, IsScratch}
 
 -- no nodes, and the first number

@@ -1,7 +1,7 @@
 -- The first name that isn't known, of reads one after the other.
-use Rattle.std.proofs.Common.{◌≡◌, ℕ, true, false, refl, sym, ◌∙◌, inl, inr, List, [], ◌∷◌, ◌++◌, Option, Some, None}
+use Rattle.std.proofs.Common.{◌≡◌, ℕ, refl, sym, ◌∙◌, inl, inr, List, [], ◌∷◌, ◌++◌, Option, Some, None}
 use Rattle.std.specs.List.{slice_get}
-use Rattle.std.proofs.lemmas.Bool.{cases_Bool, false≢true}
+use Rattle.std.proofs.lemmas.Bool.{cases_Bool}
 use Rattle.sig_base.specs.declared.value.Outcome.{Outcome}
 use Rattle.tpl_model.specs.Sources.{first_missing, is_there}
 use Rattle.tpl_scratch.specs.declared.stop.Stop.{Stop}

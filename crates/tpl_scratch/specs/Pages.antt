@@ -99,7 +99,8 @@ abbrev pub attributes_in : List (List ℕ × Formula) → List (List ℕ × Tree
 attributes_in xs = map (λ (a : List ℕ × Formula). (a.0, tree a.1)) xs
 
 -- all that attributes read is known, whether one met a fault is told, and these are present, unless showing ended at a fault
-pub record HasAttributes (known : List (Option Outcome)) (ends : Bool) (row : Option RowRef) (xs : List (List ℕ × Tree)) (found : Attributes) : Type 0 where
+pub record HasAttributes (known : List (Option Outcome)) (ends : Bool) (row : Option RowRef) (xs : List (List ℕ × Tree)) (found : Attributes)
+    : Type 0 where
   pub told : (n : Numbered) → Shows known ends (attributes_told ends (on_known known) row xs) n n found.failed
   pub values : (ends && found.failed) ≡ false → found.values.items ≡ present (attributes_of (on_known known) row xs)
 

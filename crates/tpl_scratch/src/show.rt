@@ -1,10 +1,10 @@
 // What the lines of a template show on the outcomes that are known.
-ghost use Rattle.std.specs.Prelude.{◌≡◌, ◌<◌, ◌++◌, ◌&&◌, ◌||◌, [], length, IfErr, IfOk, IfSome, OnOk, false, true};
+ghost use Rattle.std.specs.Prelude.{◌≡◌, ◌<◌, ◌++◌, [], length, IfErr, IfOk, IfSome, OnOk, false, true};
 ghost use Rattle.std.specs.Option.{option_copied};
 ghost use Rattle.sig_formula.specs.Trees.{tree};
 ghost use Rattle.signal_model.specs.Sound.{names_of};
 ghost use Rattle.page_model.specs.Labels.{with_value};
-ghost use Rattle.tpl_model.specs.Shapes.{attributes_told, is_fault, row_here, shown_block, then_shown, Showing};
+ghost use Rattle.tpl_model.specs.Shapes.{attributes_told, row_here, shown_block, then_shown, Showing};
 ghost use Rattle.tpl_model.specs.Sources.{on_known};
 ghost use Rattle.tpl_blocks.specs.Blocks.{block};
 ghost use Rattle.tpl_scratch.specs.Pages.{attributes_in, beside, each_shown, element_shown, nodes_of, rows_of, rows_shown, shown_where, shows_branch, text_shown, unless_ended, with_node};
@@ -18,30 +18,7 @@ use sig_base::{NoMemory, Outcome, Rows, Text, Value};
 use sig_formula::{Formula, RowRef};
 use std::alloc::Global;
 use tpl_blocks::Block;
-
-// Whether an outcome is a fault.
-fn is_fault(outcome: &Outcome) -> bool
-    ensures { result ≡ is_fault outcome.now }
-{
-    match outcome {
-        Outcome::Good(_) => false,
-        Outcome::Bad(_) => true,
-    }
-}
-
-// Whether showing ends, where it ends at a fault or doesn't, and a line met one or didn't.
-fn is_over(ends: bool, failed: bool) -> bool
-    ensures { result ≡ (ends && failed) }
-{
-    ends && failed
-}
-
-// Whether one part or another met a fault.
-fn any(failed: bool, later: bool) -> bool
-    ensures { result ≡ (failed || later) }
-{
-    failed || later
-}
+use tpl_model::{either_failed, is_fault, is_over};
 
 // A text.
 fn show_text(
@@ -133,7 +110,7 @@ fn attributes_here(
                 failed: true,
             });
         }
-        failed = any(failed, fault);
+        failed = either_failed(failed, fault);
     }
     Ok(Attributes { values, failed })
 }
@@ -177,7 +154,7 @@ fn show_behind(
         return Ok(true);
     }
     let later = show(alloc, rest, ends, here, known, out)?;
-    Ok(any(failed, later))
+    Ok(either_failed(failed, later))
 }
 
 // An element, its attributes before its children.
@@ -343,7 +320,7 @@ fn show_rows(
         if is_over(ends, fault) {
             return Ok(true);
         }
-        failed = any(failed, fault);
+        failed = either_failed(failed, fault);
     }
     Ok(failed)
 }
@@ -414,7 +391,7 @@ pub(crate) fn show(
             let shown = branches_of(alloc, test, here, known)?;
             let first = show_where(alloc, shown.one, one, ends, here, known, out)?;
             let second = show_where(alloc, shown.other, other, ends, here, known, out)?;
-            let failed = any(shown.failed, any(first, second));
+            let failed = either_failed(shown.failed, either_failed(first, second));
             let all = show_behind(alloc, failed, rest, ends, here, known, out)?;
             Ok(all)
         }
@@ -422,7 +399,7 @@ pub(crate) fn show(
             let outcome = evaluated(alloc, rows, here, known)?;
             let fault = is_fault(&outcome);
             let inside = show_each(alloc, rows_in(outcome), inner, ends, known, out)?;
-            let failed = any(fault, inside);
+            let failed = either_failed(fault, inside);
             let all = show_behind(alloc, failed, rest, ends, here, known, out)?;
             Ok(all)
         }

@@ -1,4 +1,3 @@
-use Rattle.std.specs.Option.{option_copied}
 use Rattle.tpl_blocks.specs.Blocks.{block, lines_of}
 use Rattle.tpl_scratch.specs.Pages.{nodes_of}
 use Rattle.tpl_scratch.proofs.Results.{scratch_is}

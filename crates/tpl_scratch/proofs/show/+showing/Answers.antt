@@ -1,11 +1,11 @@
-use Rattle.std.proofs.Common.{◌∙◌, ◌+◌, ap, arith, drop, false, refl, subst, sym, true}
+use Rattle.std.proofs.Common.{◌∙◌, ◌+◌, ap, arith, drop, false, subst, sym, true}
 use Rattle.std.specs.Prelude.{◌||◌}
 use Rattle.std.specs.Option.{option_copied}
 use Rattle.sig_formula.specs.Trees.{tree}
 use Rattle.tpl_blocks.specs.Blocks.{block}
 use Rattle.tpl_model.specs.Shapes.{attributes_told, row_here, shown_block, then_shown}
 use Rattle.tpl_model.specs.Sources.{on_known}
-use Rattle.tpl_scratch.specs.Pages.{attempt_shown, attributes_in, beside, each_shown, element_shown, no_children, nodes_of, rows_shown, shown_where, text_shown, Shows}
+use Rattle.tpl_scratch.specs.Pages.{attempt_shown, attributes_in, beside, element_shown, no_children, nodes_of, rows_shown, text_shown, Shows}
 use Rattle.tpl_scratch.proofs.Parts.{attributes_stop, choice_shown, choice_shows, each_shows, element_shows, attempt_shows, first_stops, handed_on, in_any, lines_stop, rest_stops}
 use Rattle.tpl_scratch.proofs.Parts.{loop_shown, nothing_shows, rows_done, rows_ended, rows_on, rows_read_stop, rows_stop, instead_stops, second_stops, test_stops}
 use Rattle.tpl_scratch.proofs.Parts.{then_ended, then_shows, then_stops, all_rows_left, tried_stops, RowsLeft}
@@ -19,7 +19,7 @@ show_behind-returns-then-is_over-clause-shows u c x before s =
 
 pub show_behind-returns-clause-shows : goal.show_behind-returns-clause-shows
 show_behind-returns-clause-shows u c x before s =
-    subst (λ z. Shows c.args.known.now c.args.ends (then_shown c.args.ends x (shown_block (on_known c.args.known.now) c.args.ends (option_copied c.args.here) (block c.args.rest.now))) before (nodes_of c.show.new.out) z) (sym c.any.ensures)
+    subst (λ z. Shows c.args.known.now c.args.ends (then_shown c.args.ends x (shown_block (on_known c.args.known.now) c.args.ends (option_copied c.args.here) (block c.args.rest.now))) before (nodes_of c.show.new.out) z) (sym c.either_failed.ensures)
     (then_shows c.args.known.now c.args.ends x (shown_block (on_known c.args.known.now) c.args.ends (option_copied c.args.here) (block c.args.rest.now)) before (nodes_of c.args.out.now) (nodes_of c.show.new.out) c.args.failed c.in_ok-later.later s c.in_ok-later.ensures.shows)
 
 pub show_behind-returns-in_err-later-clause-stops : goal.show_behind-returns-in_err-later-clause-stops
@@ -78,7 +78,7 @@ show_rows-loop-place-init u c = all_rows_left c.args.known.now c.args.ends (bloc
 
 pub show_rows-loop-place-preserved : goal.show_rows-loop-place-preserved
 show_rows-loop-place-preserved u c =
-    subst (RowsLeft c.args.known.now c.args.ends (block c.args.inner.now) c.args.rows.now (nodes_of c.args.out.now) (nodes_of c.show.new.out) (c.loop-place.place + 1) (drop (c.loop-place.place + 1) c.args.rows.now.rows)) (sym c.any-failed.ensures)
+    subst (RowsLeft c.args.known.now c.args.ends (block c.args.inner.now) c.args.rows.now (nodes_of c.args.out.now) (nodes_of c.show.new.out) (c.loop-place.place + 1) (drop (c.loop-place.place + 1) c.args.rows.now.rows)) (sym c.either_failed-failed.ensures)
     (rows_on c.args.known.now c.args.ends (block c.args.inner.now) c.args.rows.now (nodes_of c.args.out.now) (nodes_of c.loop-place.out) (nodes_of c.show.new.out)
     c.loop-place.place c.in_ok-here.here c.loop-place.failed c.in_ok-fault.fault c.loop-place.invariant c.in_ok-here.ensures.here c.in_ok-fault.ensures.shows
     (sym c.is_over.ensures ∙ c.if-is_over.false))
@@ -163,9 +163,9 @@ show-returns-in_err-all-in-Tag-clause-stops u c =
 pub show-returns-in_ok-all-in-Choice-clause-shows : goal.show-returns-in_ok-all-in-Choice-clause-shows
 show-returns-in_ok-all-in-Choice-clause-shows u c =
     let s = choice_shows c.args.known.now c.args.ends (option_copied c.args.here) (tree c.in-Choice.test) (block c.in-Choice.one.value) (block c.in-Choice.other.value) c.in_ok-shown-in-Choice.shown (nodes_of c.args.out.now) (nodes_of c.show_where.new.out) (nodes_of c.show_where-in-Choice.new.out)
-    c.in_ok-first-in-Choice.first c.in_ok-second-in-Choice.second c.any-failed.result c.in_ok-shown-in-Choice.ensures.found
+    c.in_ok-first-in-Choice.first c.in_ok-second-in-Choice.second c.either_failed-failed.result c.in_ok-shown-in-Choice.ensures.found
     (rw c.deref-in-Choice.ensures at c.in_ok-first-in-Choice.ensures.shows) (rw c.deref-in-Choice-2.ensures at c.in_ok-second-in-Choice.ensures.shows)
-    (c.any-failed.ensures ∙ ap (λ z. c.in_ok-shown-in-Choice.shown.failed || z) c.any.ensures) in
+    (c.either_failed-failed.ensures ∙ ap (λ z. c.in_ok-shown-in-Choice.shown.failed || z) c.either_failed.ensures) in
     rw c.in-Choice.is ((rw c.deref-in-Choice-3.ensures at c.in_ok-all-in-Choice.ensures.shows) (choice_shown c.args.known.now c.args.ends (option_copied c.args.here) (tree c.in-Choice.test) (block c.in-Choice.one.value) (block c.in-Choice.other.value)) (nodes_of c.args.out.now) s)
 
 pub show-returns-in_err-shown-in-Choice-clause-stops : goal.show-returns-in_err-shown-in-Choice-clause-stops
@@ -191,9 +191,9 @@ show-returns-in_err-second-in-Choice-clause-stops u c =
 pub show-returns-in_err-all-in-Choice-clause-stops : goal.show-returns-in_err-all-in-Choice-clause-stops
 show-returns-in_err-all-in-Choice-clause-stops u c =
     let s = choice_shows c.args.known.now c.args.ends (option_copied c.args.here) (tree c.in-Choice.test) (block c.in-Choice.one.value) (block c.in-Choice.other.value) c.in_ok-shown-in-Choice.shown (nodes_of c.args.out.now) (nodes_of c.show_where.new.out) (nodes_of c.show_where-in-Choice.new.out)
-    c.in_ok-first-in-Choice.first c.in_ok-second-in-Choice.second c.any-failed.result c.in_ok-shown-in-Choice.ensures.found
+    c.in_ok-first-in-Choice.first c.in_ok-second-in-Choice.second c.either_failed-failed.result c.in_ok-shown-in-Choice.ensures.found
     (rw c.deref-in-Choice.ensures at c.in_ok-first-in-Choice.ensures.shows) (rw c.deref-in-Choice-2.ensures at c.in_ok-second-in-Choice.ensures.shows)
-    (c.any-failed.ensures ∙ ap (λ z. c.in_ok-shown-in-Choice.shown.failed || z) c.any.ensures) in
+    (c.either_failed-failed.ensures ∙ ap (λ z. c.in_ok-shown-in-Choice.shown.failed || z) c.either_failed.ensures) in
     rw c.in-Choice.is
     (handed_on c.args.known.now _ c.from_residual-in_err-all-in-Choice.result c.in_err-all-in-Choice.field-0.0 c.from_residual-in_err-all-in-Choice.ensures.1
     ((rw c.deref-in-Choice-3.ensures at c.in_err-all-in-Choice.ensures.stops) (choice_shown c.args.known.now c.args.ends (option_copied c.args.here) (tree c.in-Choice.test) (block c.in-Choice.one.value) (block c.in-Choice.other.value)) (nodes_of c.args.out.now) s))
@@ -201,8 +201,8 @@ show-returns-in_err-all-in-Choice-clause-stops u c =
 pub show-returns-in_ok-all-in-Each-clause-shows : goal.show-returns-in_ok-all-in-Each-clause-shows
 show-returns-in_ok-all-in-Each-clause-shows u c =
     let s = each_shows c.args.known.now c.args.ends (option_copied c.args.here) (tree c.in-Each.rows) (block c.in-Each.inner.value) c.in_ok-outcome-in-Each.outcome c.rows_in.result (nodes_of c.args.out.now) (nodes_of c.show_each.new.out)
-    c.is_fault-fault.result c.in_ok-inside-in-Each.inside c.any-failed-in-Each.result c.in_ok-outcome-in-Each.ensures.found c.rows_in.ensures c.is_fault-fault.ensures
-    (rw c.deref-in-Each.ensures at c.in_ok-inside-in-Each.ensures.shows) c.any-failed-in-Each.ensures in
+    c.is_fault-fault.result c.in_ok-inside-in-Each.inside c.either_failed-failed-in-Each.result c.in_ok-outcome-in-Each.ensures.found c.rows_in.ensures c.is_fault-fault.ensures
+    (rw c.deref-in-Each.ensures at c.in_ok-inside-in-Each.ensures.shows) c.either_failed-failed-in-Each.ensures in
     rw c.in-Each.is ((rw c.deref-in-Each-2.ensures at c.in_ok-all-in-Each.ensures.shows) (loop_shown c.args.known.now c.args.ends (option_copied c.args.here) (tree c.in-Each.rows) (block c.in-Each.inner.value)) (nodes_of c.args.out.now) s)
 
 pub show-returns-in_err-outcome-in-Each-clause-stops : goal.show-returns-in_err-outcome-in-Each-clause-stops
@@ -221,8 +221,8 @@ show-returns-in_err-inside-in-Each-clause-stops u c =
 pub show-returns-in_err-all-in-Each-clause-stops : goal.show-returns-in_err-all-in-Each-clause-stops
 show-returns-in_err-all-in-Each-clause-stops u c =
     let s = each_shows c.args.known.now c.args.ends (option_copied c.args.here) (tree c.in-Each.rows) (block c.in-Each.inner.value) c.in_ok-outcome-in-Each.outcome c.rows_in.result (nodes_of c.args.out.now) (nodes_of c.show_each.new.out)
-    c.is_fault-fault.result c.in_ok-inside-in-Each.inside c.any-failed-in-Each.result c.in_ok-outcome-in-Each.ensures.found c.rows_in.ensures c.is_fault-fault.ensures
-    (rw c.deref-in-Each.ensures at c.in_ok-inside-in-Each.ensures.shows) c.any-failed-in-Each.ensures in
+    c.is_fault-fault.result c.in_ok-inside-in-Each.inside c.either_failed-failed-in-Each.result c.in_ok-outcome-in-Each.ensures.found c.rows_in.ensures c.is_fault-fault.ensures
+    (rw c.deref-in-Each.ensures at c.in_ok-inside-in-Each.ensures.shows) c.either_failed-failed-in-Each.ensures in
     rw c.in-Each.is
     (handed_on c.args.known.now _ c.from_residual-in_err-all-in-Each.result c.in_err-all-in-Each.field-0.0 c.from_residual-in_err-all-in-Each.ensures.1
     ((rw c.deref-in-Each-2.ensures at c.in_err-all-in-Each.ensures.stops) (loop_shown c.args.known.now c.args.ends (option_copied c.args.here) (tree c.in-Each.rows) (block c.in-Each.inner.value)) (nodes_of c.args.out.now) s))

@@ -1,4 +1,4 @@
-use Rattle.std.proofs.Common.{◌≡◌, ◌+◌, ◌<◌, ◌∷◌, List, [], ap, drop, false, get_or, length, refl, subst, sym, ◌∙◌, ℕ}
+use Rattle.std.proofs.Common.{◌≡◌, ◌+◌, ◌<◌, ◌∷◌, List, ap, drop, false, get_or, length, refl, subst, sym, ◌∙◌, ℕ}
 use Rattle.std.proofs.lemmas.List.{drop_more, drop_all}
 use Rattle.std.specs.Option.{option_copied}
 use Rattle.sig_formula.specs.Trees.{tree}
@@ -26,7 +26,7 @@ loop-attribute-preserved c =
     let x = c.attribute-item.result in
     let e = item_on xs i x c.loop-attribute-test.true c.attribute-item.is in
     let left = subst (λ r. AreLeft c.args.known.now c.args.ends row (attributes_in xs) (attributes_in r) c.loop-attribute.values.items c.loop-attribute.failed) e c.loop-attribute.invariant in
-    subst (AreLeft c.args.known.now c.args.ends row (attributes_in xs) (attributes_in (drop (i + 1) xs)) c.put_evaluated.new.out.items) (sym c.any-failed.ensures)
+    subst (AreLeft c.args.known.now c.args.ends row (attributes_in xs) (attributes_in (drop (i + 1) xs)) c.put_evaluated.new.out.items) (sym c.either_failed-failed.ensures)
     (fewer_left c.args.known.now c.args.ends row (attributes_in xs) x.0 (tree x.1) (attributes_in (drop (i + 1) xs)) c.loop-attribute.values.items
     c.put_evaluated.new.out.items c.loop-attribute.failed c.in_ok-fault.fault left c.in_ok-fault.ensures.put (sym c.is_over.ensures ∙ c.if-is_over.false))
 
