@@ -1,12 +1,12 @@
 -- Where watchers stand, and what an edit at a place does.
-use Rattle.std.proofs.Common.{◌≡◌, ℕ, zero, suc, ◌+◌, ◌≤◌, ◌<◌, ◌==◌, ◌||◌, Bool, true, false, cond, List, [], ◌∷◌, ◌++◌, length, take, drop, map, refl, sym, ap, ◌∙◌, subst, arith, length-append}
+use Rattle.std.proofs.Common.{◌≡◌, ◌↔◌, ℕ, zero, suc, ◌+◌, ◌≤◌, ◌<◌, ◌==◌, ◌||◌, Bool, true, false, cond, List, [], ◌∷◌, ◌++◌, length, take, drop, map, refl, sym, ap, ◌∙◌, subst, arith, length-append, true≢false}
 use Rattle.std.proofs.lemmas.Bool.{eqb-true, eq-eqb}
 use Rattle.std.specs.Prelude.{slice_set, slice_index_or}
 use Rattle.signal_model.specs.Signals.{changed, without}
 use Rattle.effect_model.specs.Worlds.{Watcher}
 use Rattle.sig_watcher.specs.Numbers.{changed_at, IsFirst, Rises}
 use Rattle.effect_model.specs.Watchers.{signals_at}
-use Rattle.sig_watcher.specs.Tables.{is_alive, new_watcher}
+use Rattle.sig_watcher.specs.Tables.{Table, is_alive, new_watcher}
 
 -- the number of a watcher
 abbrev number_of : Watcher → ℕ
@@ -61,6 +61,16 @@ pub first_alive : (xs : List Watcher) (n p : ℕ) → IsFirst xs n p → is_aliv
 first_alive [] n p h = absurd h
 first_alive (x ∷ xs) n zero h = ap (λ b. b || is_alive xs n) (eq-eqb n x.number h)
 first_alive (x ∷ xs) n (suc p) h = ap (λ b. b || is_alive xs n) h.0 ∙ first_alive xs n p h.1
+
+-- so one that was found among those of a table lives
+pub found_alive : (s t : Table) (xs : List Watcher) (n p : ℕ) → s ≡ t → xs ≡ s.watchers → IsFirst xs n p → is_alive t.watchers n ≡ true
+found_alive s t xs n p view here at =
+    ap (λ (u : Table). is_alive u.watchers n) (sym view) ∙ first_alive s.watchers n p (subst (λ (ys : List Watcher). IsFirst ys n p) here at)
+
+-- and no call for it is refused for want of it
+pub isnt_gone : {Refused : Type 0} (s t : Table) (xs : List Watcher) (n p : ℕ) → s ≡ t → xs ≡ s.watchers → IsFirst xs n p → (Refused → ⊥) →
+    Refused ↔ (is_alive t.watchers n ≡ false)
+isnt_gone s t xs n p view here at never = (λ q. absurd (never q), λ gone. absurd (true≢false (sym (found_alive s t xs n p view here at) ∙ gone)))
 
 -- who doesn't live watches nothing
 pub none_signals : (xs : List Watcher) (n : ℕ) → is_alive xs n ≡ false → signals_at xs n ≡ []

@@ -1,8 +1,8 @@
-use Rattle.std.proofs.Common.{List, length, sym, ap, ◌∙◌, subst, arith, rules, true≢false}
+use Rattle.std.proofs.Common.{List, length, sym, ap, ◌∙◌, subst, arith, rules}
 use Rattle.effect_model.specs.Worlds.{Watcher}
 use Rattle.sig_watcher.specs.Numbers.{IsFirst, Rises}
-use Rattle.sig_watcher.specs.Tables.{Table, is_alive, with_removal}
-use Rattle.sig_watcher.proofs.Places.{removed_length, first_alive, first_below, removed_first, rises_removed}
+use Rattle.sig_watcher.specs.Tables.{Table, with_removal}
+use Rattle.sig_watcher.proofs.Places.{removed_length, isnt_gone, first_below, removed_first, rises_removed}
 use Rattle.sig_watcher.proofs.watchers.Watchers.remove.Goals as goal
 
 pub remove-removed-requires : goal.remove-removed-requires
@@ -27,6 +27,4 @@ returns-clause-after c =
 
 pub returns-clause-gone : goal.returns-clause-gone
 returns-clause-gone c =
-    let at = subst (λ (xs : List Watcher). IsFirst xs c.args.w c.in-Some.place) c.deref.ensures.value c.in-Some.ensures.some in
-    let alive = ap (λ (t : Table). is_alive t.watchers c.args.w) (sym c.self.view_is) ∙ first_alive c.self.inside.watchers.items c.args.w c.in-Some.place at in
-    (λ q. cc, λ q. absurd (true≢false (sym alive ∙ q)))
+    isnt_gone _ c.args.self.now _ c.args.w c.in-Some.place c.self.view_is c.deref.ensures.value c.in-Some.ensures.some (λ q. cc)

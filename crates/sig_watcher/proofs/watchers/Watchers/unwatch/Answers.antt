@@ -1,9 +1,9 @@
-use Rattle.std.proofs.Common.{◌<◌, ◌&&◌, not, List, length, sym, ap, ◌∙◌, subst, arith, true≢false, refl}
+use Rattle.std.proofs.Common.{◌<◌, ◌&&◌, not, List, length, sym, ap, ◌∙◌, subst, arith, refl}
 use Rattle.effect_model.specs.Worlds.{Watcher}
 use Rattle.sig_watcher.specs.Numbers.{IsFirst, Rises}
 use Rattle.effect_model.specs.Watchers.{watches}
-use Rattle.sig_watcher.specs.Tables.{Table, is_alive, with_changed}
-use Rattle.sig_watcher.proofs.Places.{changed_first, first_alive, first_below, rises_changed, length_changed}
+use Rattle.sig_watcher.specs.Tables.{Table, with_changed}
+use Rattle.sig_watcher.proofs.Places.{changed_first, isnt_gone, found_alive, first_below, rises_changed, length_changed}
 use Rattle.sig_watcher.proofs.watchers.Watchers.unwatch.Goals as goal
 use Rattle.effect_model.specs.Acts.{forget}
 
@@ -14,14 +14,12 @@ watches_at-requires c =
 
 pub returns-then-not-watches_at-clause-gone : goal.returns-then-not-watches_at-clause-gone
 returns-then-not-watches_at-clause-gone c =
-    let at = subst (λ (xs : List Watcher). IsFirst xs c.args.w c.in-Some.place) c.deref.ensures.value c.in-Some.ensures.some in
-    let alive = ap (λ (t : Table). is_alive t.watchers c.args.w) (sym c.self.view_is) ∙ first_alive c.self.inside.watchers.items c.args.w c.in-Some.place at in
-    (λ q. cc, λ q. absurd (true≢false (sym alive ∙ q)))
+    isnt_gone _ c.args.self.now _ c.args.w c.in-Some.place c.self.view_is c.deref.ensures.value c.in-Some.ensures.some (λ q. cc)
 
 pub returns-then-not-watches_at-clause-not_watched : goal.returns-then-not-watches_at-clause-not_watched
 returns-then-not-watches_at-clause-not_watched c =
     let at = subst (λ (xs : List Watcher). IsFirst xs c.args.w c.in-Some.place) c.deref.ensures.value c.in-Some.ensures.some in
-    let alive = ap (λ (t : Table). is_alive t.watchers c.args.w) (sym c.self.view_is) ∙ first_alive c.self.inside.watchers.items c.args.w c.in-Some.place at in
+    let alive = found_alive _ c.args.self.now _ c.args.w c.in-Some.place c.self.view_is c.deref.ensures.value c.in-Some.ensures.some in
     let read = subst (λ (xs : List Watcher). IsFirst xs c.args.w c.in-Some.place) (sym c.deref-2.ensures.value) at in
     let off = ap (λ (t : Table). watches t.watchers c.args.w c.args.id) (sym c.self.view_is) ∙ ap (λ (xs : List Watcher). watches xs c.args.w c.args.id) (sym c.deref-2.ensures.value) ∙ sym (c.watches_at.ensures c.args.w read) ∙ c.if-not-watches_at.true in
     (λ q. ap (λ b. b && not (watches c.args.self.now.watchers c.args.w c.args.id)) alive ∙ ap not off, λ q. refl)
@@ -48,6 +46,4 @@ returns-clause-after c =
 
 pub returns-clause-gone : goal.returns-clause-gone
 returns-clause-gone c =
-    let at = subst (λ (xs : List Watcher). IsFirst xs c.args.w c.in-Some.place) c.deref.ensures.value c.in-Some.ensures.some in
-    let alive = ap (λ (t : Table). is_alive t.watchers c.args.w) (sym c.self.view_is) ∙ first_alive c.self.inside.watchers.items c.args.w c.in-Some.place at in
-    (λ q. cc, λ q. absurd (true≢false (sym alive ∙ q)))
+    isnt_gone _ c.args.self.now _ c.args.w c.in-Some.place c.self.view_is c.deref.ensures.value c.in-Some.ensures.some (λ q. cc)

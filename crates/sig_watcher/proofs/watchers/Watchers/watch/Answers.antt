@@ -1,8 +1,8 @@
-use Rattle.std.proofs.Common.{◌≡◌, List, length, sym, ap, ◌∙◌, subst, arith, true≢false, refl}
+use Rattle.std.proofs.Common.{◌≡◌, List, length, sym, ap, ◌∙◌, subst, arith, refl}
 use Rattle.effect_model.specs.Worlds.{Watcher}
 use Rattle.sig_watcher.specs.Numbers.{IsFirst, Rises}
-use Rattle.sig_watcher.specs.Tables.{Table, is_alive, with_changed}
-use Rattle.sig_watcher.proofs.Places.{changed_first, first_alive, first_below, rises_changed, length_changed}
+use Rattle.sig_watcher.specs.Tables.{Table, with_changed}
+use Rattle.sig_watcher.proofs.Places.{changed_first, isnt_gone, first_below, rises_changed, length_changed}
 use Rattle.sig_watcher.proofs.watchers.Watchers.watch.Goals as goal
 use Rattle.effect_model.specs.Commands.{armed}
 use Rattle.sig_watcher.specs.declared.errors.WatchFault.TheVariants as fault
@@ -15,9 +15,8 @@ arm_at-requires c =
 
 pub returns-in_err-arm_at-clause-gone : goal.returns-in_err-arm_at-clause-gone
 returns-in_err-arm_at-clause-gone c =
-    let at = subst (λ (xs : List Watcher). IsFirst xs c.args.w c.in-Some.place) c.deref.ensures.value c.in-Some.ensures.some in
-    let alive = ap (λ (t : Table). is_alive t.watchers c.args.w) (sym c.self.view_is) ∙ first_alive c.self.inside.watchers.items c.args.w c.in-Some.place at in
-    (λ q. let h : fault.NoMemory ≡ fault.Gone = sym (err_at _ _ _ c.from_residual.ensures.1 q) in cc, λ q. absurd (true≢false (sym alive ∙ q)))
+    isnt_gone _ c.args.self.now _ c.args.w c.in-Some.place c.self.view_is c.deref.ensures.value c.in-Some.ensures.some
+    (λ q. let h : fault.NoMemory ≡ fault.Gone = sym (err_at _ _ _ c.from_residual.ensures.1 q) in cc)
 
 pub invariant_of-self-2 : goal.invariant_of-self-2
 invariant_of-self-2 c =
@@ -36,6 +35,4 @@ returns-clause-after c =
 
 pub returns-clause-gone : goal.returns-clause-gone
 returns-clause-gone c =
-    let at = subst (λ (xs : List Watcher). IsFirst xs c.args.w c.in-Some.place) c.deref.ensures.value c.in-Some.ensures.some in
-    let alive = ap (λ (t : Table). is_alive t.watchers c.args.w) (sym c.self.view_is) ∙ first_alive c.self.inside.watchers.items c.args.w c.in-Some.place at in
-    (λ q. cc, λ q. absurd (true≢false (sym alive ∙ q)))
+    isnt_gone _ c.args.self.now _ c.args.w c.in-Some.place c.self.view_is c.deref.ensures.value c.in-Some.ensures.some (λ q. cc)
