@@ -1,17 +1,15 @@
 -- Handlers of events are made, and run.
-use Rattle.std.proofs.Common.{◌≡◌, ◌⊎◌, inl, inr, ℕ, zero, suc, List, [], ◌∷◌, ◌++◌, length, length-append, map, Option, Some, None, refl, sym, ap, subst, ◌∙◌, arith}
+use Rattle.std.proofs.Common.{◌≡◌, ◌⊎◌, inl, inr, ℕ, zero, suc, List, [], ◌∷◌, ◌++◌, length, length-append, map, Option, Some, refl, sym, ap, subst, ◌∙◌, arith}
 use Rattle.std.specs.Prelude.{slice_get}
 use Rattle.std.specs.List.{AllByRecursion}
 use Rattle.signal_model.specs.Recipes.{Hosts}
-use Rattle.effect_model.specs.Bodies.{Body}
 use Rattle.effect_tables.specs.Scripts.{IsFitting}
 use Rattle.effect_tables.specs.declared.effect.Script.{Script}
 use Rattle.event_model.specs.declared.awaited.Awaited.{Awaited}
 use Rattle.event_model.specs.declared.fired.Fired.{Fired}
 use Rattle.effect_world.specs.declared.world.World.{World}
-use Rattle.effect_world.specs.Costs.{weight}
 use Rattle.live_entries.specs.declared.entry.Entry.{Entry}
-use Rattle.live_firing.specs.Stages.{Comes, HasPlayed, handling_in, handlings_in, script_body, stage, told_behind}
+use Rattle.live_firing.specs.Stages.{Comes, handlings_in, script_body, stage, told_behind}
 use Rattle.live_labels.specs.declared.labels.Labels.{Labels}
 use Rattle.live_model.specs.Handlers.{Handler, Handling, handler_body, handlings_of}
 use Rattle.live_model.specs.Machine.{firing}

@@ -1,6 +1,5 @@
 use Rattle.std.proofs.Common.{◌∙◌, sym, ap, arith}
 use Rattle.live_model.specs.Pages.{tag_in}
-use Rattle.live_pages.specs.Views.{template_of}
 use Rattle.live_items.proofs.Found.{tagged_past, tagged_same}
 use Rattle.live_items.proofs.refusals.is_tag_in.Goals as goal
 

@@ -1,10 +1,9 @@
-use Rattle.std.proofs.Common.{◌∙◌, ℕ, List, Option, Some, map, sym, ap, subst}
+use Rattle.std.proofs.Common.{◌∙◌, List, Option, map, sym, ap, subst}
 use Rattle.event_model.specs.Handlers.{fired_on}
 use Rattle.event_model.specs.declared.awaited.Awaited.{Awaited}
 use Rattle.live_model.specs.Handlers.{fired_of}
 use Rattle.live_model.specs.Machine.{page_at}
 use Rattle.live_model.specs.Pages.{Page}
-use Rattle.live_pages.specs.declared.mounted.Mounted.{Mounted}
 use Rattle.live_pages.specs.Updates.{AreStanding}
 use Rattle.live_pages.specs.Views.{page_of}
 use Rattle.tpl_live.specs.Contents.{standing}

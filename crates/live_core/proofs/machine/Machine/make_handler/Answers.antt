@@ -8,7 +8,6 @@ use Rattle.event_model.specs.declared.awaited.Awaited.{Awaited}
 use Rattle.event_model.specs.declared.limits.TheConstants.{MOST_HANDLERS}
 use Rattle.live_entries.specs.declared.refusal.LimitWord.TheVariants as limit
 use Rattle.live_linking.proofs.Shared.{fit_links}
-use Rattle.live_model.specs.Handlers.{Handler}
 use Rattle.live_model.specs.Links.{linked_alone, links_of}
 use Rattle.live_model.specs.Machine.{reached}
 use Rattle.live_model.specs.Names.{number_of}

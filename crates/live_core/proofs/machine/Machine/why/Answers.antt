@@ -1,5 +1,4 @@
-use Rattle.std.proofs.Common.{◌∙◌, ℕ, List, Option, ap}
-use Rattle.why_model.specs.declared.causes.Link.{Link}
+use Rattle.std.proofs.Common.{◌∙◌, ℕ, ap}
 use Rattle.live_model.specs.Journals.{chain_in, why_entries}
 use Rattle.live_model.specs.Machine.{reached}
 use Rattle.live_core.specs.Views.{plain_of}
