@@ -14,7 +14,7 @@ returns-clause-steps c = λ hosts slacks asked sound.
     aborted_steps hosts asked m c.abort.new.self c.tell_all.new.labels c.tell_all.new.journal c.take.new.self c.take.result c.in_ok-told.told.items c.in-Some.batch
     c.take.ensures.value c.in-Some.is c.take.ensures.after
     (acts_steps hosts asked asked m c.abort.new.self c.tell_all.new.labels c.tell_all.new.journal c.new-events.result.items c.abort.new.events.items act act c.in_ok-told.told.items
-    c.new-events.ensures.items (c.in_ok-abort.ensures.does hosts asked sound) refl
+    c.new-events.ensures.items (c.in_ok-abort.ensures.changed.does hosts asked c.requires.owned sound) refl
     (tells_by m.labels c.tell_all.new.labels m.journal c.tell_all.new.journal c.abort.new.events.items _ c.in_ok-told.told.items c.deref.ensures.value t.entries t.labels t.noted t.names))
 
 pub returns-clause-leaves : goal.returns-clause-leaves
@@ -22,7 +22,7 @@ returns-clause-leaves c = λ hosts asked count sound.
     let m = c.args.self.now in
     let e = c.in_ok-abort.ensures in
     leaves_batched asked asked count m c.abort.new.self c.tell_all.new.labels c.tell_all.new.journal c.take.new.self c.requires.ready c.in_ok-told.ensures.names
-    (stays_quiet asked m.world c.abort.new.self (abort c.in-Some.batch.changed) (e.does hosts asked sound).whole
-    (all_keep_kinds.aborting c.in-Some.batch.changed) e.given (ap (λ (t : Table). t.made) e.watchers) e.tables)
-    e.tables (roomy_none c.abort.new.self.graph.state.signals c.take.new.self c.take.ensures.after) (λ a. e.agrees asked a) (λ r. e.rules count r)
-    (let w = e.worn in let t = ap (λ x. x.effects_made) e.tables in let l = c.len-count.ensures in omega (arith, w, t, l))
+    (stays_quiet asked m.world c.abort.new.self (abort c.in-Some.batch.changed) (e.changed.does hosts asked c.requires.owned sound).whole
+    (all_keep_kinds.aborting c.in-Some.batch.changed) e.changed.given (ap (λ (t : Table). t.made) e.watchers) e.tables)
+    e.tables (roomy_none c.abort.new.self.graph.state.signals c.take.new.self c.take.ensures.after) (λ a. e.changed.agrees asked a) (λ r. e.changed.rules count r)
+    (let w = e.changed.worn in let t = ap (λ x. x.effects_made) e.tables in let l = c.len-count.ensures in omega (arith, w, t, l))

@@ -21,7 +21,7 @@ returns-clause-steps g c = λ hosts sound.
     let is : thing_named (meaning_of m.names c.args.name.now) ≡ Some thing = sym c.thing_named.ensures ∙ ap (option_map thing_of) c.in-Some.is in
     let middle = record m { world = c.dispose.new.self; labels = c.tell_all.new.labels; journal = c.tell_all.new.journal } in
     let done = acts_steps hosts _ _ m c.dispose.new.self c.tell_all.new.labels c.tell_all.new.journal c.new-events.result.items c.dispose.new.events.items
-    (dispose_thing env thing) (dispose_thing env thing) c.in_ok-told.told.items c.new-events.ensures.items (c.in_ok-dispose.ensures.does hosts sound) refl
+    (dispose_thing env thing) (dispose_thing env thing) c.in_ok-told.told.items c.new-events.ensures.items (c.in_ok-dispose.ensures.done.does hosts sound) refl
     (tells_by m.labels c.tell_all.new.labels m.journal c.tell_all.new.journal c.dispose.new.events.items _ c.in_ok-told.told.items c.deref.ensures.value t.entries t.labels t.noted t.names) in
     disposed_steps hosts env _ _ m (record middle { pages = c.keep_live.new.pages }) c.in_ok-told.told.items _ thing is
     (pages_steps hosts _ middle (record middle { pages = c.keep_live.new.pages }) c.in_ok-told.told.items _ done refl
@@ -30,7 +30,7 @@ returns-clause-steps g c = λ hosts sound.
 pub returns-clause-leaves : goal.returns-clause-leaves
 returns-clause-leaves g c = λ hosts count all sound.
     let m = c.args.self.now in
-    let e = c.in_ok-dispose.ensures in
+    let e = c.in_ok-dispose.ensures.done in
     let env = environment hosts (map (λ r. r.slack) c.args.rules.now) in
     let thing = thing_of c.in-Some.thing in
     let new = record m { world = c.dispose.new.self; labels = c.tell_all.new.labels; journal = c.tell_all.new.journal; pages = c.keep_live.new.pages } in

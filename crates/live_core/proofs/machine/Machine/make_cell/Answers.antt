@@ -28,7 +28,7 @@ returns-clause-steps c = λ hosts slacks asked sound.
     let d = e.does hosts asked sound in
     let labels = record (labels_of m.labels) { signals = m.labels.signals.items ++ c.args.name ∷ [] } in
     steps_named hosts asked m new c.make_cell.new.self c.args.name kind.Cell c.in_ok-id.id m.world.graph.given labels
-    (with_new_cell (scalar_value c.args.value) c.args.equals (owner_of m.names c.args.inside) (whole_of asked m.world)) c.new.result.items e.id
+    (with_new_cell (scalar_value c.args.value) c.args.equals (owner_of m.names c.args.inside) (whole_of asked m.world)) c.new.result.items e.made.next
     (d.whole ∙ (λ i. at_rest (with_new_cell (c.into.ensures i) (c.rule_place.ensures i) (c.owner_of-owner.ensures i) (whole_of asked m.world))))
     (record { names = n.names; labels = n.labels; parts = n.parts }) c.new.ensures.items d.sound
 
@@ -43,13 +43,13 @@ returns-clause-leaves c = λ hosts asked slacks count sound same fine.
     let signals = ap (λ x. x.signals) whole in
     let labels = record (labels_of m.labels) { signals = m.labels.signals.items ++ c.args.name ∷ [] } in
     leaves_count asked asked (length slacks) count m new same
-    (leaves_signal asked (length slacks) m new c.make_cell.new.self c.args.name kind.Cell c.in_ok-id.id labels c.requires.ready refl e.id
+    (leaves_signal asked (length slacks) m new c.make_cell.new.self c.args.name kind.Cell c.in_ok-id.id labels c.requires.ready refl e.made.next
     (record { names = n.names; labels = n.labels; parts = n.parts }) refl refl
     (record { watchers = ap (λ x. x.made.watchers) whole; pages = ap (λ x. x.pages) whole; paged = ap (λ x. x.made.pages) whole })
-    e.given
+    e.made.given
     (beside_cell m.world.graph.state.signals c.make_cell.new.self.graph.state.signals cell signals)
     (here_cell m.world.graph.state.signals c.make_cell.new.self.graph.state.signals cell signals)
-    c.requires.alone (let a = e.worn in let b = ap (λ x. x.made.effects) whole in omega (arith, a, b))
+    c.requires.alone (let a = e.made.worn in let b = ap (λ x. x.made.effects) whole in omega (arith, a, b))
     (λ h. record { agrees = e.agrees asked h.agrees; ruled = e.ruled (length slacks) (λ r is. rule_below slacks c.args.equals r fine (sym c.rule_place.ensures ∙ is)) h.ruled }))
 
 pub returns-in_err-id-clause-memory : goal.returns-in_err-id-clause-memory
@@ -59,7 +59,7 @@ returns-in_err-id-clause-memory c =
     let opened : is_open (living 0 m.world.tables.owners.items) c.owner_of-owner.result ≡ true =
     subst (λ o. is_open (living 0 m.world.tables.owners.items) o ≡ true) (sym c.owner_of-owner.ensures) (inside_open m.world m.names c.args.inside fine.1) in
     let room = room_below MOST_NODES (live_count m.world.graph.state.signals) limit.Nodes c.requires.room in
-    let f = only_three _ (λ e. true_false (sym opened ∙ c.in_err-id.ensures.gone.0 (ap (λ x. Err x) e))) (λ e. not_most _ MOST_NODES room (c.in_err-id.ensures.limit.0 (ap (λ x. Err x) e)).1) in
+    let f = only_three _ (λ e. true_false (sym opened ∙ c.in_err-id.ensures.refuses.0.0 (ap (λ x. Err x) e))) (λ e. not_most _ MOST_NODES room (c.in_err-id.ensures.refuses.1.0 (ap (λ x. Err x) e)).1) in
     search rules
 
 pub name_signal-requires : goal.name_signal-requires

@@ -25,18 +25,17 @@ use Rattle.live_core.proofs.Commands.{every, few_made, few_slots, free_made, hos
 use Rattle.live_core.proofs.Creations.{beside_computed, here_computed, leaves_signal, steps_named}
 use Rattle.live_core.proofs.machine.Machine.make_computed.Goals as goal
 
-pub make_computed-requires-clause-given : goal.make_computed-requires-clause-given
-make_computed-requires-clause-given c =
+pub make_computed-requires-clause-links : goal.make_computed-requires-clause-links
+make_computed-requires-clause-links c =
     let m = c.args.self.now in
     let fine = neither (refused_at m.world m.names c.args.name need.New) _ (uses_fine m (command.Computed c.args.name c.args.source c.args.inside) c.requires.fine) in
     let named = parted m.world m.names (uses_of_source c.args.source) (uses_of_inside c.args.inside) fine.1 in
-    subst (λ (r : Recipe). All (λ (n : ℕ). is_given m.world.graph n ≡ true) r.slots) (sym c.in_ok-linked.ensures)
-    (every (λ n. is_given m.world.graph n ≡ true) (recipe_of m.names c.args.source).slots (source_used m.world _ m.names c.args.source c.requires.ready.meant named.0).given)
-
-pub make_computed-requires-clause-few : goal.make_computed-requires-clause-few
-make_computed-requires-clause-few c =
-    few_made (recipe_made (expression_of c.in_ok-linked.linked.recipe) c.in_ok-linked.linked.slots.items) (recipe_of c.args.self.now.names c.args.source) c.in_ok-linked.ensures
-    (few_slots c.args.self.now.names c.args.source c.requires.few)
+    record {
+      given = subst (λ (r : Recipe). All (λ (n : ℕ). is_given m.world.graph n ≡ true) r.slots) (sym c.in_ok-linked.ensures)
+          (every (λ n. is_given m.world.graph n ≡ true) (recipe_of m.names c.args.source).slots (source_used m.world _ m.names c.args.source c.requires.ready.meant named.0).given);
+      few = few_made (recipe_made (expression_of c.in_ok-linked.linked.recipe) c.in_ok-linked.linked.slots.items) (recipe_of m.names c.args.source) c.in_ok-linked.ensures
+          (few_slots m.names c.args.source c.requires.few);
+    }
 
 pub returns-clause-steps : goal.returns-clause-steps
 returns-clause-steps c = λ hosts slacks asked agrees free sound.
@@ -49,7 +48,7 @@ returns-clause-steps c = λ hosts slacks asked agrees free sound.
     let d = e.does hosts asked agrees (free_made (whole_of asked m.world) made r c.in_ok-linked.ensures (host_fine (whole_of asked m.world) m.names c.args.source free)) sound in
     let labels = record (labels_of m.labels) { signals = m.labels.signals.items ++ c.args.name ∷ [] } in
     steps_named hosts asked m new c.make_computed.new.self c.args.name kind.Computed c.in_ok-id.id m.world.graph.given labels
-    (with_use (host_of r.expression) (with_new_computed r (owner_of m.names c.args.inside) (whole_of asked m.world))) c.new.result.items e.id
+    (with_use (host_of r.expression) (with_new_computed r (owner_of m.names c.args.inside) (whole_of asked m.world))) c.new.result.items e.made.next
     (d.whole
     ∙ (λ i. at_rest (with_use (host_of (c.in_ok-linked.ensures i).expression) (with_new_computed (c.in_ok-linked.ensures i) (c.owner_of-owner.ensures i) (whole_of asked m.world)))))
     (record { names = n.names; labels = n.labels; parts = n.parts }) c.new.ensures.items d.sound
@@ -66,17 +65,17 @@ returns-clause-leaves c = λ hosts asked rules sound agrees free.
     let computed : Computed = record { name = m.world.graph.given; recipe = made } in
     let signals = ap (λ x. x.signals) whole ∙ stood_for (host_of made.expression) _ in
     leaves_signal asked rules m new c.make_computed.new.self c.args.name kind.Computed c.in_ok-id.id (record (labels_of m.labels) { signals = m.labels.signals.items ++ c.args.name ∷ [] })
-    c.requires.ready refl e.id (record { names = n.names; labels = n.labels; parts = n.parts }) refl refl
+    c.requires.ready refl e.made.next (record { names = n.names; labels = n.labels; parts = n.parts }) refl refl
     (record {
       watchers = ap (λ x. x.made.watchers) whole ∙ ap (λ x. x.watchers) (made_for (host_of made.expression) _);
       pages = ap (λ x. x.pages) whole ∙ paged_for (host_of made.expression) _;
       paged = ap (λ x. x.made.pages) whole ∙ ap (λ x. x.pages) (made_for (host_of made.expression) _);
     })
-    e.given
+    e.made.given
     (beside_computed m.world.graph.state.signals c.make_computed.new.self.graph.state.signals computed signals)
     (here_computed m.world.graph.state.signals c.make_computed.new.self.graph.state.signals computed (none_next m.world.graph c.made-made.ensures.used) signals)
     c.requires.alone
-    (let a = e.worn in
+    (let a = e.made.worn in
     let b = ap (λ x. x.made.effects) whole ∙ ap (λ x. x.effects) (made_for (host_of made.expression) _) in omega (arith, a, b))
     (λ h. record { agrees = e.agrees asked h.agrees opened; ruled = e.ruled rules h.ruled })
 
@@ -87,7 +86,7 @@ returns-in_err-id-clause-memory c =
     let opened : is_open (living 0 m.world.tables.owners.items) c.owner_of-owner.result ≡ true =
     subst (λ o. is_open (living 0 m.world.tables.owners.items) o ≡ true) (sym c.owner_of-owner.ensures) (inside_open m.world m.names c.args.inside (parted m.world m.names (uses_of_source c.args.source) (uses_of_inside c.args.inside) fine.1).1) in
     let room = room_below MOST_NODES (live_count m.world.graph.state.signals) limit.Nodes c.requires.room in
-    let f = only_three _ (λ e. true_false (sym opened ∙ c.in_err-id.ensures.gone.0 (ap (λ x. Err x) e))) (λ e. not_most _ MOST_NODES room (c.in_err-id.ensures.limit.0 (ap (λ x. Err x) e)).1) in
+    let f = only_three _ (λ e. true_false (sym opened ∙ c.in_err-id.ensures.refuses.0.0 (ap (λ x. Err x) e))) (λ e. not_most _ MOST_NODES room (c.in_err-id.ensures.refuses.1.0 (ap (λ x. Err x) e)).1) in
     search rules
 
 pub name_signal-requires : goal.name_signal-requires

@@ -25,7 +25,7 @@ returns-clause-steps c = λ hosts slacks asked sound.
     let d = e.does hosts asked sound in
     steps_named hosts asked m c.name_watcher.new.self c.make_watcher.new.self c.args.name kind.Watcher c.in_ok-watcher.watcher m.world.watchers.made
     (record (labels_of m.labels) { watchers = m.labels.watchers.items ++ c.args.name ∷ [] })
-    (with_new_watcher (is_trying c.args.tries) (whole_of asked m.world)) c.new.result.items e.id
+    (with_new_watcher (is_trying c.args.tries) (whole_of asked m.world)) c.new.result.items e.made.0
     (d.whole ∙ ap (λ (b : Bool). at_rest (with_new_watcher b (whole_of asked m.world))) (c.is_some.ensures ∙ trying c.args.tries))
     (record { names = n.names; labels = n.labels; parts = n.parts }) c.new.ensures.items d.sound
 
@@ -37,6 +37,6 @@ returns-clause-leaves c = λ hosts asked rules sound.
     let whole = (e.does hosts asked sound).whole in
     leaves_watcher asked rules m c.name_watcher.new.self c.make_watcher.new.self c.args.name c.in_ok-watcher.watcher c.requires.ready
     (record { names = n.names; labels = n.labels; parts = n.parts })
-    e.graph (ap (λ t. t.made) e.watchers)
+    e.graph (ap (λ t. t.made) e.made.1)
     (ap (λ x. x.pages) whole) (ap (λ x. x.made.pages) whole) (ap (λ x. x.made.effects) whole)
     (e.agrees asked)

@@ -1,4 +1,4 @@
-use Rattle.std.proofs.Common.{rules, Err, ◌≡◌, ◌∙◌, ◌∷◌, ℕ, true, refl, sym, ap, subst, arith}
+use Rattle.std.proofs.Common.{rules, [], Err, ◌≡◌, ◌∙◌, ◌∷◌, ℕ, true, refl, sym, ap, subst, arith}
 use Rattle.std.specs.List.{All}
 use Rattle.signal_model.specs.Recipes.{Recipe}
 use Rattle.signal_model.specs.Signals.{is_there, standing}
@@ -19,30 +19,24 @@ use Rattle.live_core.proofs.Batched.{roomy_none}
 use Rattle.live_core.proofs.Commands.{acts_steps, every, few_made, few_slots, free_made, host_fine, leaves_acted, no_cell, only_memory, source_used, stays_by, tells_by, true_false}
 use Rattle.live_core.proofs.machine.Machine.rewire.Goals as goal
 
-pub rewire-requires-clause-kind : goal.rewire-requires-clause-kind
-rewire-requires-clause-kind g c =
+pub rewire-requires-clause-can : goal.rewire-requires-clause-can
+rewire-requires-clause-can g c =
     let m = c.args.self.now in
+    let made = recipe_made (expression_of c.in_ok-linked.linked.recipe) c.in_ok-linked.linked.slots.items in
     let fine = neither (refused_at m.world m.names c.args.name.now (need.Of kind.Computed)) _ (uses_fine m (command.Rewire c.args.name.now c.args.source) c.requires.fine) in
     let is = kind_used m.world _ m.names c.args.name.now kind.Computed refl c.requires.ready.meant (used_of m.world m.names c.args.name.now kind.Computed fine.0) in
-    no_cell (standing m.world.graph.state.signals c.of-computed.result)
-    (ap (λ i. is_of_kind kind.Computed (standing m.world.graph.state.signals i)) (c.of-computed.ensures ∙ c.number_of.ensures) ∙ is.1)
-
-pub rewire-requires-clause-given : goal.rewire-requires-clause-given
-rewire-requires-clause-given g c =
-    let m = c.args.self.now in
-    let fine = neither (refused_at m.world m.names c.args.name.now (need.Of kind.Computed)) _ (uses_fine m (command.Rewire c.args.name.now c.args.source) c.requires.fine) in
-    subst (λ (r : Recipe). All (λ (n : ℕ). is_given m.world.graph n ≡ true) r.slots) (sym c.in_ok-linked.ensures)
-    (every (λ n. is_given m.world.graph n ≡ true) (recipe_of m.names c.args.source).slots (source_used m.world _ m.names c.args.source c.requires.ready.meant fine.1).given)
-
-pub rewire-requires-clause-few : goal.rewire-requires-clause-few
-rewire-requires-clause-few g c =
-    few_made (recipe_made (expression_of c.in_ok-linked.linked.recipe) c.in_ok-linked.linked.slots.items) (recipe_of c.args.self.now.names c.args.source) c.in_ok-linked.ensures
-    (few_slots c.args.self.now.names c.args.source c.requires.few)
-
-pub rewire-requires-clause-free : goal.rewire-requires-clause-free
-rewire-requires-clause-free g c =
-    free_made _ (recipe_made (expression_of c.in_ok-linked.linked.recipe) c.in_ok-linked.linked.slots.items) (recipe_of c.args.self.now.names c.args.source) c.in_ok-linked.ensures
-    (host_fine _ c.args.self.now.names c.args.source c.requires.free)
+    let weight = c.requires.weight in
+    record {
+      kind = no_cell (standing m.world.graph.state.signals c.of-computed.result)
+          (ap (λ i. is_of_kind kind.Computed (standing m.world.graph.state.signals i)) (c.of-computed.ensures ∙ c.number_of.ensures) ∙ is.1);
+      links = record {
+        given = subst (λ (r : Recipe). All (λ (n : ℕ). is_given m.world.graph n ≡ true) r.slots) (sym c.in_ok-linked.ensures)
+            (every (λ n. is_given m.world.graph n ≡ true) (recipe_of m.names c.args.source).slots (source_used m.world _ m.names c.args.source c.requires.ready.meant fine.1).given);
+        few = few_made made (recipe_of m.names c.args.source) c.in_ok-linked.ensures (few_slots m.names c.args.source c.requires.few);
+      };
+      free = free_made _ made (recipe_of m.names c.args.source) c.in_ok-linked.ensures (host_fine _ m.names c.args.source c.requires.free);
+      worn = omega (arith, weight);
+    }
 
 pub returns-clause-steps : goal.returns-clause-steps
 returns-clause-steps g c = λ hosts slacks sound.
@@ -51,19 +45,27 @@ returns-clause-steps g c = λ hosts slacks sound.
     acts_steps hosts _ _ m c.rewire.new.self c.tell_all.new.labels c.tell_all.new.journal c.new-events.result.items c.rewire.new.events.items
     (rewire_signal c.of-computed.result (recipe_made (expression_of c.in_ok-linked.linked.recipe) c.in_ok-linked.linked.slots.items))
     (rewire_signal (number_of m.names c.args.name.now) (recipe_of m.names c.args.source)) c.in_ok-told.told.items
-    c.new-events.ensures.items (c.in_ok-rewire.ensures.does hosts sound)
+    c.new-events.ensures.items ((c.in_ok-rewire.ensures.done slacks).does hosts sound)
     (λ i. rewire_signal ((c.of-computed.ensures ∙ c.number_of.ensures) i) (c.in_ok-linked.ensures i))
     (tells_by m.labels c.tell_all.new.labels m.journal c.tell_all.new.journal c.rewire.new.events.items _ c.in_ok-told.told.items c.deref.ensures.value t.entries t.labels t.noted t.names)
 
 pub returns-clause-leaves : goal.returns-clause-leaves
 returns-clause-leaves g c = λ hosts count all sound.
     let m = c.args.self.now in
-    let e = c.in_ok-rewire.ensures in
+    let tables = c.in_ok-rewire.ensures.tables in
+    let stays = c.in_ok-rewire.ensures.rewired.stays in
+    let e = c.in_ok-rewire.ensures.done [] in
     let r = recipe_made (expression_of c.in_ok-linked.linked.recipe) c.in_ok-linked.linked.slots.items in
     leaves_acted _ _ count m c.rewire.new.self c.tell_all.new.labels c.tell_all.new.journal c.requires.ready c.in_ok-told.ensures.names
     (stays_by _ _ m.world c.rewire.new.self (rewire_signal c.of-computed.result r) (e.does hosts sound).whole
     (all_keep_counts.rewiring c.of-computed.result r) (all_keep_kinds.rewiring c.of-computed.result r))
-    e.tables (roomy_none c.rewire.new.self.graph.state.signals m.batch c.requires.alone) (λ a. e.agrees) (λ k. e.rules count k) (let w = e.stays.worn in let t = ap (λ x. x.effects_made) e.tables in omega (arith, w, t))
+    tables (roomy_none c.rewire.new.self.graph.state.signals m.batch c.requires.alone) (λ a. e.agrees) (λ k. e.rules count k) (let w = stays.worn in let t = ap (λ x. x.effects_made) tables in omega (arith, w, t))
+
+pub returns-clause-answers : goal.returns-clause-answers
+returns-clause-answers g c = (c.in_ok-rewire.ensures.done []).answers
+
+pub returns-clause-most : goal.returns-clause-most
+returns-clause-most g c = let m = (c.in_ok-rewire.ensures.done []).most in omega (arith, m)
 
 pub returns-in_err-rewire-clause-memory : goal.returns-in_err-rewire-clause-memory
 returns-in_err-rewire-clause-memory g c =
@@ -74,5 +76,5 @@ returns-in_err-rewire-clause-memory g c =
     let first = ap (λ i. is_there (standing m.world.graph.state.signals i)) (c.of-computed.ensures ∙ c.number_of.ensures) ∙ is.0.there in
     let rest = ap (λ (r : Recipe). are_there m.world.graph.state.signals r.slots) c.in_ok-linked.ensures ∙ slots in
     let there : are_there m.world.graph.state.signals (c.of-computed.result ∷ c.in_ok-linked.linked.slots.items) ≡ true = rw first rest in
-    let f = only_memory _ c.in_err-rewire.ensures.fault (λ e. true_false (sym there ∙ c.in_err-rewire.ensures.gone (ap (λ x. Err x) e))) in
+    let f = only_memory _ c.in_err-rewire.ensures.refuses.2 (λ e. true_false (sym there ∙ (c.in_err-rewire.ensures.refuses.1 (ap (λ x. Err x) e)).0)) in
     search rules
