@@ -23,7 +23,8 @@ use Rattle.sig_effect.specs.Stores.{AreRuled, environment}
 use Rattle.sig_effect.specs.declared.events.Event.{Event}
 use Rattle.sig_host.specs.Hosts.{HostPlace, most_asked}
 
--- the world, what is known of the places of host formulas, what things are called, the journal, once it was begun, and what happened and was told so far
+-- the world, what is known of the places of host formulas, what things are called, the journal, once it was begun, and what happened and was told
+-- so far
 pub record Stage : Type 0 where
   pub world : World
   pub asked : List HostPlace
@@ -83,8 +84,9 @@ abbrev pub heard : Body → Environment → plain.Machine → Told
 heard b env m = settling env m (names_of (body_evaluation env.hosts m.world.signals b).reads)
 
 -- So many handlers ran, of which that is all that is known of what happened: where it began and where it ended, there were some events.
-pub record HasPlayed (slacks : List ℕ) (handlers : ℕ) (old : World) (asked : List HostPlace) (labels : Labels) (journal : Option Journal) (before : List Entry)
-    (new : World) (later : List HostPlace) (called : Labels) (noted : Option Journal) (after : List Entry) (first last : Hosts → Type 0)
+pub record HasPlayed (slacks : List ℕ) (handlers : ℕ) (old : World) (asked : List HostPlace) (labels : Labels) (journal : Option Journal)
+    (before : List Entry) (new : World) (later : List HostPlace) (called : Labels) (noted : Option Journal) (after : List Entry)
+    (first last : Hosts → Type 0)
     (act : Environment → plain.Machine → Told) : Type 0 where
   pub events : List Event
   pub few : length events < 2 ^ 63

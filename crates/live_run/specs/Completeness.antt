@@ -47,6 +47,7 @@ pub record IsDecided (j : Job) (input : List ℕ) (s : Status) : Type 0 where
 -- source tells that it has, or the workload, decides which.
 abbrev pub CompleteLaw : Type 0
 CompleteLaw = (meanings : List Meaning) (slacks : List ℕ) (j : Job) (old new : SourceSeen) (before after : SinkSeen) (s : Status) →
-    Ends meanings slacks j old new before after s → (Rose old.faults new.faults → ⊥) → (Rose before.faults after.faults → ⊥) → (s ≡ status.NoMemory → ⊥) →
+    Ends meanings slacks j old new before after s → (Rose old.faults new.faults → ⊥) → (Rose before.faults after.faults → ⊥) →
+    (s ≡ status.NoMemory → ⊥) →
     ((GaveOver (limit_of j) old.given new.given → ⊥) → (s ≡ status.Done) ⊎ ((j ≡ job.Follow) × (s ≡ status.BadFrames)))
     × IfSome (input_of j old.left) (λ input. IsDecided j input s)

@@ -40,9 +40,9 @@ abbrev pub IsFrontPrinted : List Meaning → List ℕ → ScriptJob → Option (
 IsFrontPrinted meanings slacks j held now script =
     (items : List Item) × ItemsFrom 1 script items × AppendsFront held now (lent_output meanings slacks j items)
 
--- What each status says of a job that runs a script, where the source tells its bytes or the job doesn't read it: the script is no longer than it may be, or
--- too long, and its output was printed, or a front of it. Source and sink are blamed only where they failed, and the source never by a job that doesn't
--- read it.
+-- What each status says of a job that runs a script, where the source tells its bytes or the job doesn't read it: the script is no longer than it
+-- may be, or too long, and its output was printed, or a front of it. Source and sink are blamed only where they failed, and the source never by a job
+-- that doesn't read it.
 abbrev pub ScriptEnds : List Meaning → List ℕ → ScriptJob → SourceSeen → SourceSeen → SinkSeen → SinkSeen → Status → Type 0
 ScriptEnds meanings slacks j old new before after status.Done =
     IfSome (script_of j old.left) (λ script. IsPrinted meanings slacks j before.held after.held script)
@@ -53,7 +53,8 @@ ScriptEnds meanings slacks j old new before after status.WriteFault =
     Rose before.faults after.faults
     × IfSome (script_of j old.left) (λ script. IsFrontPrinted meanings slacks j before.held after.held script)
     × IfSome (script_of j old.left) (λ script. length script ≤ MOST_SCRIPT)
-ScriptEnds meanings slacks j old new before after status.NoMemory = IfSome (script_of j old.left) (λ script. IsFrontPrinted meanings slacks j before.held after.held script)
+ScriptEnds meanings slacks j old new before after status.NoMemory =
+    IfSome (script_of j old.left) (λ script. IsFrontPrinted meanings slacks j before.held after.held script)
 ScriptEnds meanings slacks j old new before after status.TooLong =
     GaveTooMuch old.given new.given
     × IfSome (script_of j old.left) (λ script. MOST_SCRIPT < length script)
@@ -62,9 +63,9 @@ ScriptEnds meanings slacks j old new before after _ = ⊥
 
 -- ---- frames
 
--- What each status says where frames are followed and the source tells its bytes: they have no fault and all that their notes print was written, or they
--- have one and all before it was written, or a front of what the notes of a front print. They are too long only where they have no fault up to there.
--- Source and sink are blamed only where they failed, and the frames only once some came.
+-- What each status says where frames are followed and the source tells its bytes: they have no fault and all that their notes print was written, or
+-- they have one and all before it was written, or a front of what the notes of a front print. They are too long only where they have no fault up to
+-- there. Source and sink are blamed only where they failed, and the frames only once some came.
 abbrev pub FollowEnds : SourceSeen → SourceSeen → SinkSeen → SinkSeen → Status → Type 0
 FollowEnds old new before after status.Done =
     IfSome old.left (λ input. IsFollowed input before.held after.held) × IfSome old.left NoFault × IsAtEnd new.left

@@ -43,8 +43,8 @@ lent meanings slacks = record { hosts = hosts_of meanings; slacks = slacks }
 abbrev pub lent_output : List Meaning → List ℕ → ScriptJob → List Item → List ℕ
 lent_output meanings slacks j is = output_of j is (entries_from (lent meanings slacks) (empty (length meanings)) is)
 
--- The pages of these items are live from the first item to the last, where these host formulas and rules are lent. And whoever follows the notes of what they
--- tell refuses none, and prints the lines of the pages.
+-- The pages of these items are live from the first item to the last, where these host formulas and rules are lent. And whoever follows the notes of
+-- what they tell refuses none, and prints the lines of the pages.
 pub record Lives (meanings : List Meaning) (slacks : List ℕ) (is : List Item) : Type 0 where
   pub live : IsLive (lent meanings slacks) (empty (length meanings)) is
   pub followed : IsFollowed (wired (entries_from (lent meanings slacks) (empty (length meanings)) is)) []
