@@ -13,7 +13,7 @@ use Rattle.effect_tables.specs.Scripts.{IsFitting}
 use Rattle.effect_tables.specs.declared.effect.Script.{Script}
 use Rattle.effect_tables.specs.declared.links.Target.{Target}
 use Rattle.effect_tables.proofs.Shared.{placed_rests}
-use Rattle.effect_acts.specs.Acts.{Acted}
+use Rattle.effect_world.specs.Answers.{Acted}
 use Rattle.effect_turns.specs.Runs.{Runs, Spends}
 use Rattle.effect_turns.proofs.Shared.{any_parts, settle_none}
 use Rattle.effect_world.specs.declared.world.World.{World}
