@@ -4,6 +4,7 @@ use Rattle.sig_untrack.specs.declared.body.Body.{Body}
 use Rattle.sig_untrack.specs.declared.body.Body.TheViews.{out-Body}
 use Rattle.sig_untrack.specs.declared.body.Body.TheFolds.{fold_out-Body}
 use Rattle.sig_untrack.specs.Stated.{Bodies, Rewiring, before, before_step, bodies_before, no_bodies, rewiring}
+use Rattle.body_text.proofs.Shared.{bodies_more}
 use Rattle.effect_tables.specs.declared.links.Links.{Links}
 use Rattle.effect_tables.specs.declared.links.Target.{Target}
 use Rattle.effect_tables.specs.Bodies.{Linking, all_before, links, links_before, no_links}
@@ -19,10 +20,6 @@ mapped_more : (ls : List Links) (l : Links) → map links_before (ls ++ l ∷ []
 mapped_more [] l = refl
 mapped_more (k ∷ ls) l = ap (λ (fs : List (Linking → Linking)). links_before k ∷ fs) (mapped_more ls l)
 
-before_more : (bs : List Body) (b : Body) (others : Bodies) → bodies_before (bs ++ b ∷ []) others ≡ bodies_before bs (before b others)
-before_more [] b others = refl
-before_more (c ∷ bs) b others = ap (before c) (before_more bs b others)
-
 -- the links of one nested effect more
 pub nested_more : (names : Names) (own : List ℕ) (ls : List Links) (l : Links) (bs : List Body) (b : Body) →
     ((others : Bodies) → all_before (map links_before ls) (links_of names own others) ≡ links_of names own (bodies_before bs others)) →
@@ -33,7 +30,7 @@ nested_more names own ls l bs b so one others =
     ∙ all_more (map links_before ls) (links_before l) (links_of names own others)
     ∙ ap (all_before (map links_before ls)) (one others)
     ∙ so (before b others)
-    ∙ ap (links_of names own) (sym (before_more bs b others))
+    ∙ ap (links_of names own) (sym (bodies_more bs b others))
 
 -- the links of a body, from those of its nested effects
 pub whole_links : (names : Names) (own : List ℕ) (b : Body) (ns : List ℕ) (ts : List Target) (ls : List Links) (ss : List (List ℕ)) →
