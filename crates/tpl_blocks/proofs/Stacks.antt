@@ -5,7 +5,7 @@ use Rattle.std.proofs.lemmas.List.{reverse-append, map-append}
 use Rattle.tpl_model.specs.Lines as model
 use Rattle.tpl_syntax.specs.declared.line.Line.{Line}
 use Rattle.sig_formula.specs.declared.formula.Formula.{Formula}
-use Rattle.tpl_blocks.specs.Blocks.{held, plain_line, part_of, GoesAround, IsTop, StandsBefore}
+use Rattle.tpl_blocks.specs.Blocks.{begun, held, plain_line, part_of, GoesAround, IsTop, StandsBefore}
 use Rattle.tpl_blocks.specs.declared.builder.Part.{Part}
 
 -- a part is put there
@@ -43,9 +43,10 @@ pub line_before : (n : ℕ) (l : model.Line) (p q : model.Part) (before rest now
 line_before n l p q before rest now a e g h = h ∙ (ap (λ z. z ++ rest) g ∙ (sym (a.1 p rest) ∙ sym (ap (model.with_line n l) e)))
 
 -- it goes around the innermost
-pub line_around : (n : ℕ) (l : model.Line) (i p q : model.Part) (before rest now : List model.Part) → GoesAround n l → before ≡ i ∷ p ∷ rest →
-    q ∷ [] ≡ model.with_line n l (i ∷ p ∷ []) → now ≡ q ∷ rest → now ≡ model.with_line n l before
-line_around n l i p q before rest now a e g h = h ∙ (ap (λ z. z ++ rest) g ∙ (sym (a.2 i p rest) ∙ sym (ap (model.with_line n l) e)))
+pub line_around : (n : ℕ) (l : model.Line) (i p : model.Part) (b : model.Block) (before rest now : List model.Part) → GoesAround n l → before ≡ i ∷ p ∷ rest →
+    b ≡ begun n l i p.lines → now ≡ record p { lines = b } ∷ rest → now ≡ model.with_line n l before
+line_around n l i p b before rest now a e g h =
+    h ∙ (ap (λ z. record p { lines = z } ∷ rest) g ∙ (sym (a.2 i p rest) ∙ sym (ap (model.with_line n l) e)))
 
 -- one more line, the one before those that were gone over
 pub one_back : (lines : List (Line Formula)) (x : Line Formula) (at : ℕ) (before now : List model.Part) → 0 < at → drop (at - 1) lines ≡ x ∷ drop at lines →

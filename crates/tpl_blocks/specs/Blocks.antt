@@ -61,6 +61,14 @@ plain_line l = model_line (mapped tree l)
 abbrev pub part_of : Part → model.Part
 part_of p = record { lines = block p.lines.value; others = block p.others.value; attributes = waiting p.attributes.items }
 
+-- what a line begins, with the part that its end ends, before other lines; other lines begin nothing
+abbrev pub begun : ℕ → model.Line → model.Part → model.Block → model.Block
+begun n (model.TagLine name) i rest = model.tag n name i.attributes i.lines rest
+begun n (model.IfLine f) i rest = model.choice f i.lines i.others rest
+begun n (model.EachLine f) i rest = model.each f i.lines rest
+begun n model.TryLine i rest = model.attempt i.lines i.others rest
+begun n l i rest = rest
+
 -- the open parts, held with the innermost last
 unfoldable pub held : List Part → List model.Part
 held parts = reverse (map part_of parts)
@@ -80,7 +88,7 @@ StandsBefore n l =
 abbrev pub GoesAround : ℕ → model.Line → Type 0
 GoesAround n l =
     (model.with_line n l [] ≡ []) × ((p : model.Part) → model.with_line n l (p ∷ []) ≡ p ∷ [])
-    × ((i p : model.Part) (rest : List model.Part) → model.with_line n l (i ∷ p ∷ rest) ≡ model.with_line n l (i ∷ p ∷ []) ++ rest)
+    × ((i p : model.Part) (rest : List model.Part) → model.with_line n l (i ∷ p ∷ rest) ≡ record p { lines = begun n l i p.lines } ∷ rest)
 
 -- The innermost part, the one around it, and the others; or there aren't two, all are left, and a line that goes around them says nothing.
 abbrev pub IsPair : Option (Part × Part) → List model.Part → List model.Part → Type 0

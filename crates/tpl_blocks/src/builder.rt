@@ -1,8 +1,8 @@
 // The blocks of a template, read from its last line back.
-ghost use Rattle.std.specs.Prelude.{◌≡◌, ◌∷◌, [], ℕ, map, IfOk, OnOk};
+ghost use Rattle.std.specs.Prelude.{◌≡◌, ◌∷◌, [], map, IfOk, OnOk};
 ghost use Rattle.sig_formula.specs.Trees.{tree};
 ghost use Rattle.tpl_model.specs.Lines as model;
-ghost use Rattle.tpl_blocks.specs.Blocks.{block, held, plain_line, lines_of, mark_line, part_of, purpose_line, waiting, IsPair, IsTop};
+ghost use Rattle.tpl_blocks.specs.Blocks.{begun, block, held, plain_line, lines_of, part_of, waiting, GoesAround, IsPair, IsTop, StandsBefore};
 
 use crate::Block;
 use sig_base::{NoMemory, Text};
@@ -124,16 +124,33 @@ fn each_block(
     boxed(alloc, Block::Each(rows, inner, rest))
 }
 
-// Lines that are shown unless they meet a fault, and others that are then shown in their place, before other lines.
-fn attempt_block(
+// What a line begins, with the part that its `end` ends, before other lines; a line that begins nothing adds nothing.
+fn begun_block(
     alloc: Global,
-    first: Box<Block>,
-    second: Box<Block>,
+    ordinal: usize,
+    line: &TplLine,
+    inner: Part,
     rest: Box<Block>,
 ) -> Result<Box<Block>, NoMemory>
-    ensures { IfOk result (λ b. block b.value ≡ model.attempt (block first.value) (block second.value) (block rest.value)) }
+    ensures { IfOk result (λ b. block b.value ≡ begun ordinal (plain_line line.now) (part_of inner) (block rest.value)) }
 {
-    boxed(alloc, Block::Attempt(first, second, rest))
+    let Part {
+        lines: inside,
+        others,
+        attributes,
+    } = inner;
+    match line {
+        TplLine::Plain(Mark::Tag(name)) => {
+            tag_block(alloc, ordinal, name, attributes, inside, rest)
+        }
+        TplLine::Plain(Mark::Try) => boxed(alloc, Block::Attempt(inside, others, rest)),
+        TplLine::Plain(Mark::Else) => Ok(rest),
+        TplLine::Plain(Mark::End) => Ok(rest),
+        TplLine::Over(Purpose::Text, _) => Ok(rest),
+        TplLine::Over(Purpose::Attr(_), _) => Ok(rest),
+        TplLine::Over(Purpose::If, test) => choice_block(alloc, test, inside, others, rest),
+        TplLine::Over(Purpose::Each, rows) => each_block(alloc, rows, inside, rest),
+    }
 }
 
 // A text before the lines of a part.
@@ -184,7 +201,7 @@ fn with_attribute(
     name: &Text,
     formula: &Formula,
 ) -> Result<Part, NoMemory>
-    ensures { IfOk result (λ p. (n : ℕ) → part_of p ∷ [] ≡ model.with_line n (model.AttrLine name.now (tree formula.now)) (part_of part ∷ [])) }
+    ensures { IfOk result (λ p. part_of p ∷ [] ≡ (record (part_of part) { attributes = (name.now, tree formula.now) ∷ waiting part.attributes.items }) ∷ []) }
 {
     let Part {
         lines,
@@ -199,103 +216,9 @@ fn with_attribute(
     })
 }
 
-// An element around a part, before the lines of the one around that.
-fn with_tag(
-    alloc: Global,
-    inner: Part,
-    part: Part,
-    line: usize,
-    name: &Text,
-) -> Result<Part, NoMemory>
-    ensures { IfOk result (λ p. part_of p ∷ [] ≡ model.with_line line (model.TagLine name.now) (part_of inner ∷ part_of part ∷ [])) }
-{
-    let Part {
-        lines: inside,
-        others: _none,
-        attributes: own,
-    } = inner;
-    let Part {
-        lines,
-        others,
-        attributes,
-    } = part;
-    let lines = tag_block(alloc, line, name, own, inside, lines)?;
-    Ok(Part {
-        lines,
-        others,
-        attributes,
-    })
-}
-
-// A choice around a part, before the lines of the one around that.
-fn with_choice(alloc: Global, inner: Part, part: Part, test: &Formula) -> Result<Part, NoMemory>
-    ensures { IfOk result (λ p. (n : ℕ) → part_of p ∷ [] ≡ model.with_line n (model.IfLine (tree test.now)) (part_of inner ∷ part_of part ∷ [])) }
-{
-    let Part {
-        lines: one,
-        others: other,
-        attributes: _none,
-    } = inner;
-    let Part {
-        lines,
-        others,
-        attributes,
-    } = part;
-    let lines = choice_block(alloc, test, one, other, lines)?;
-    Ok(Part {
-        lines,
-        others,
-        attributes,
-    })
-}
-
-// A part once for each row, before the lines of the one around it.
-fn with_each(alloc: Global, inner: Part, part: Part, rows: &Formula) -> Result<Part, NoMemory>
-    ensures { IfOk result (λ p. (n : ℕ) → part_of p ∷ [] ≡ model.with_line n (model.EachLine (tree rows.now)) (part_of inner ∷ part_of part ∷ [])) }
-{
-    let Part {
-        lines: inside,
-        others: _none,
-        attributes: _waiting,
-    } = inner;
-    let Part {
-        lines,
-        others,
-        attributes,
-    } = part;
-    let lines = each_block(alloc, rows, inside, lines)?;
-    Ok(Part {
-        lines,
-        others,
-        attributes,
-    })
-}
-
-// A part unless it meets a fault, and what stands after its `else` in its place, before the lines of the one around it.
-fn with_attempt(alloc: Global, inner: Part, part: Part) -> Result<Part, NoMemory>
-    ensures { IfOk result (λ p. (n : ℕ) → part_of p ∷ [] ≡ model.with_line n model.TryLine (part_of inner ∷ part_of part ∷ [])) }
-{
-    let Part {
-        lines: first,
-        others: second,
-        attributes: _none,
-    } = inner;
-    let Part {
-        lines,
-        others,
-        attributes,
-    } = part;
-    let lines = attempt_block(alloc, first, second, lines)?;
-    Ok(Part {
-        lines,
-        others,
-        attributes,
-    })
-}
-
 // Where something is begun: the lines before an `else` are still to come, and those behind it stand apart.
 fn with_else(alloc: Global, part: Part) -> Result<Part, NoMemory>
-    ensures { IfOk result (λ p. (n : ℕ) → part_of p ∷ [] ≡ model.with_line n model.ElseLine (part_of part ∷ [])) }
+    ensures { IfOk result (λ p. part_of p ∷ [] ≡ (record { lines = model.empty; others = block part.lines.value; attributes = [] }) ∷ []) }
 {
     let Part {
         lines: others,
@@ -310,107 +233,64 @@ fn with_else(alloc: Global, part: Part) -> Result<Part, NoMemory>
     })
 }
 
-// A text before the lines of the innermost part.
-fn put_text(
+// A line before the lines of a part, or behind its `else`; any other line leaves it as it is.
+fn with_before(alloc: Global, part: Part, ordinal: usize, line: &TplLine) -> Result<Part, NoMemory>
+    ensures { IfOk result (λ p. StandsBefore ordinal (plain_line line.now) → part_of p ∷ [] ≡ model.with_line ordinal (plain_line line.now) (part_of part ∷ [])) }
+{
+    match line {
+        TplLine::Plain(Mark::Tag(_)) => Ok(part),
+        TplLine::Plain(Mark::Try) => Ok(part),
+        TplLine::Plain(Mark::Else) => with_else(alloc, part),
+        TplLine::Plain(Mark::End) => Ok(part),
+        TplLine::Over(Purpose::Text, formula) => with_text(alloc, part, ordinal, formula),
+        TplLine::Over(Purpose::Attr(name), formula) => with_attribute(alloc, part, name, formula),
+        TplLine::Over(Purpose::If, _) => Ok(part),
+        TplLine::Over(Purpose::Each, _) => Ok(part),
+    }
+}
+
+// A line before the lines of the innermost part.
+fn put_before(
     alloc: Global,
     parts: &mut Vec<Part>,
-    line: usize,
-    formula: &Formula,
+    ordinal: usize,
+    line: &TplLine,
 ) -> Result<(), NoMemory>
-    ensures { OnOk result (held parts.new.items ≡ model.with_line line (model.TextLine (tree formula.now)) (held parts.old.items)) }
+    requires { StandsBefore ordinal (plain_line line.now) }
+    ensures { OnOk result (held parts.new.items ≡ model.with_line ordinal (plain_line line.now) (held parts.old.items)) }
 {
     let Some(part) = innermost(parts) else {
         return Ok(());
     };
-    let part = with_text(alloc, part, line, formula)?;
+    let part = with_before(alloc, part, ordinal, line)?;
     open(parts, part)?;
     Ok(())
 }
 
-// An attribute of the innermost part.
-fn put_attribute(
+// A line around the innermost part, before the lines of the one around that.
+fn put_around(
     alloc: Global,
     parts: &mut Vec<Part>,
-    line: usize,
-    name: &Text,
-    formula: &Formula,
+    ordinal: usize,
+    line: &TplLine,
 ) -> Result<(), NoMemory>
-    ensures { OnOk result (held parts.new.items ≡ model.with_line line (model.AttrLine name.now (tree formula.now)) (held parts.old.items)) }
+    requires { GoesAround ordinal (plain_line line.now) }
+    ensures { OnOk result (held parts.new.items ≡ model.with_line ordinal (plain_line line.now) (held parts.old.items)) }
 {
-    let Some(part) = innermost(parts) else {
+    let Some((inner, outer)) = two_innermost(parts) else {
         return Ok(());
     };
-    let part = with_attribute(alloc, part, name, formula)?;
-    open(parts, part)?;
-    Ok(())
-}
-
-// An element around the innermost part.
-fn put_tag(alloc: Global, parts: &mut Vec<Part>, line: usize, name: &Text) -> Result<(), NoMemory>
-    ensures { OnOk result (held parts.new.items ≡ model.with_line line (model.TagLine name.now) (held parts.old.items)) }
-{
-    let Some((inner, part)) = two_innermost(parts) else {
-        return Ok(());
+    let Part {
+        lines,
+        others,
+        attributes,
+    } = outer;
+    let lines = begun_block(alloc, ordinal, line, inner, lines)?;
+    let part = Part {
+        lines,
+        others,
+        attributes,
     };
-    let part = with_tag(alloc, inner, part, line, name)?;
-    open(parts, part)?;
-    Ok(())
-}
-
-// A choice around the innermost part.
-fn put_choice(
-    alloc: Global,
-    parts: &mut Vec<Part>,
-    line: usize,
-    test: &Formula,
-) -> Result<(), NoMemory>
-    ensures { OnOk result (held parts.new.items ≡ model.with_line line (model.IfLine (tree test.now)) (held parts.old.items)) }
-{
-    let Some((inner, part)) = two_innermost(parts) else {
-        return Ok(());
-    };
-    let part = with_choice(alloc, inner, part, test)?;
-    open(parts, part)?;
-    Ok(())
-}
-
-// The innermost part once for each row.
-fn put_each(
-    alloc: Global,
-    parts: &mut Vec<Part>,
-    line: usize,
-    rows: &Formula,
-) -> Result<(), NoMemory>
-    ensures { OnOk result (held parts.new.items ≡ model.with_line line (model.EachLine (tree rows.now)) (held parts.old.items)) }
-{
-    let Some((inner, part)) = two_innermost(parts) else {
-        return Ok(());
-    };
-    let part = with_each(alloc, inner, part, rows)?;
-    open(parts, part)?;
-    Ok(())
-}
-
-// The innermost part, or in its place what stands after its `else`.
-fn put_attempt(alloc: Global, parts: &mut Vec<Part>, line: usize) -> Result<(), NoMemory>
-    ensures { OnOk result (held parts.new.items ≡ model.with_line line model.TryLine (held parts.old.items)) }
-{
-    let Some((inner, part)) = two_innermost(parts) else {
-        return Ok(());
-    };
-    let part = with_attempt(alloc, inner, part)?;
-    open(parts, part)?;
-    Ok(())
-}
-
-// What stands after an `else`, apart from what stands before it.
-fn put_else(alloc: Global, parts: &mut Vec<Part>, line: usize) -> Result<(), NoMemory>
-    ensures { OnOk result (held parts.new.items ≡ model.with_line line model.ElseLine (held parts.old.items)) }
-{
-    let Some(part) = innermost(parts) else {
-        return Ok(());
-    };
-    let part = with_else(alloc, part)?;
     open(parts, part)?;
     Ok(())
 }
@@ -424,42 +304,7 @@ fn put_end(alloc: Global, parts: &mut Vec<Part>) -> Result<(), NoMemory>
     Ok(())
 }
 
-// A line without a formula before the parts that are open behind it.
-fn put_mark(
-    alloc: Global,
-    parts: &mut Vec<Part>,
-    ordinal: usize,
-    mark: &Mark,
-) -> Result<(), NoMemory>
-    ensures { OnOk result (held parts.new.items ≡ model.with_line ordinal (mark_line mark.now) (held parts.old.items)) }
-{
-    match mark {
-        Mark::Tag(name) => put_tag(alloc, parts, ordinal, name),
-        Mark::Try => put_attempt(alloc, parts, ordinal),
-        Mark::Else => put_else(alloc, parts, ordinal),
-        Mark::End => put_end(alloc, parts),
-    }
-}
-
-// A line with a formula before them.
-fn put_over(
-    alloc: Global,
-    parts: &mut Vec<Part>,
-    ordinal: usize,
-    purpose: &Purpose,
-    formula: &Formula,
-) -> Result<(), NoMemory>
-    ensures { OnOk result (held parts.new.items ≡ model.with_line ordinal (purpose_line purpose.now (tree formula.now)) (held parts.old.items)) }
-{
-    match purpose {
-        Purpose::Text => put_text(alloc, parts, ordinal, formula),
-        Purpose::Attr(name) => put_attribute(alloc, parts, ordinal, name, formula),
-        Purpose::If => put_choice(alloc, parts, ordinal, formula),
-        Purpose::Each => put_each(alloc, parts, ordinal, formula),
-    }
-}
-
-// A line before them.
+// A line before the parts that are open behind it.
 fn put_line(
     alloc: Global,
     parts: &mut Vec<Part>,
@@ -469,8 +314,14 @@ fn put_line(
     ensures { OnOk result (held parts.new.items ≡ model.with_line ordinal (plain_line line.now) (held parts.old.items)) }
 {
     match line {
-        TplLine::Plain(mark) => put_mark(alloc, parts, ordinal, mark),
-        TplLine::Over(purpose, formula) => put_over(alloc, parts, ordinal, purpose, formula),
+        TplLine::Plain(Mark::Tag(_)) => put_around(alloc, parts, ordinal, line),
+        TplLine::Plain(Mark::Try) => put_around(alloc, parts, ordinal, line),
+        TplLine::Plain(Mark::Else) => put_before(alloc, parts, ordinal, line),
+        TplLine::Plain(Mark::End) => put_end(alloc, parts),
+        TplLine::Over(Purpose::Text, _) => put_before(alloc, parts, ordinal, line),
+        TplLine::Over(Purpose::Attr(_), _) => put_before(alloc, parts, ordinal, line),
+        TplLine::Over(Purpose::If, _) => put_around(alloc, parts, ordinal, line),
+        TplLine::Over(Purpose::Each, _) => put_around(alloc, parts, ordinal, line),
     }
 }
 
