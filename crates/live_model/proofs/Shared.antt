@@ -8,3 +8,5 @@ pub use Rattle.live_model.proofs.Readable.{item_read}
 pub use Rattle.live_model.proofs.NewRows.{new_rows}
 -- what was told one after the other is noted so, and a journal that was begun is still there
 pub use Rattle.live_model.proofs.Noted.{noting_both, noting_some, unnoted}
+-- of two answers that are none together each is none
+pub use Rattle.live_model.proofs.ReadBodies.{neither}

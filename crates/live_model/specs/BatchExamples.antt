@@ -1,6 +1,5 @@
 -- Worked examples of batches: a list of items, and what the machine tells of it.
-use Rattle.std.specs.Prelude.{◌≡◌, List, [], ◌∷◌, Some, None, not, codes}
-use Rattle.std.specs.List.{filter}
+use Rattle.std.specs.Prelude.{◌≡◌, List, [], ◌∷◌, Some, None, codes}
 use Rattle.std.proofs.Common.{refl}
 use Rattle.sig_formula.specs.declared.formula.BinOp.TheVariants.{Add}
 use Rattle.sig_formula.specs.Trees.{slot, binary}
@@ -10,21 +9,15 @@ use Rattle.live_cmd.specs.declared.command.Command.TheVariants as command
 use Rattle.live_cmd.specs.declared.command.Try.TheVariants as try
 use Rattle.live_cmd.specs.declared.command.Item.{Item}
 use Rattle.live_cmd.specs.declared.command.Item.TheVariants as item
-use Rattle.live_entries.specs.declared.entry.Entry.{Entry}
 use Rattle.live_entries.specs.declared.entry.Entry.TheVariants as entry
 use Rattle.live_entries.specs.declared.refusal.Refusal.TheVariants as refusal
-use Rattle.live_entries.specs.Printed.{is_traced}
-use Rattle.live_model.specs.Examples.{told_by, a_cell, int, a_computed, a_set, a_get, a_dispose, a_pending, a_watcher, a_watch, comes_to, error}
+use Rattle.live_model.specs.Examples.{told_by, a_cell, int, a_computed, a_set, a_get, a_dispose, a_pending, a_watcher, a_watch, comes_to, error, untraced}
 
 -- ---- words for the examples
 
 -- a command of one word
 abbrev pub alone : Bare → Item
 alone b = item.Do (command.Bare b)
-
--- what isn't a line of a trace
-abbrev pub untraced : List Entry → List Entry
-untraced es = filter (λ e. not (is_traced e)) es
 
 -- ---- batches, one after the other
 

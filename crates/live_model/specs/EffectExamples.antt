@@ -1,6 +1,5 @@
 -- Worked examples with owners, effects and pages inside owners.
-use Rattle.std.specs.Prelude.{◌≡◌, ℕ, pos, List, [], ◌∷◌, Some, None, not, codes}
-use Rattle.std.specs.List.{filter}
+use Rattle.std.specs.Prelude.{◌≡◌, ℕ, pos, List, [], ◌∷◌, Some, None, codes}
 use Rattle.std.proofs.Common.{refl}
 use Rattle.sig_base.specs.declared.value.Value.TheVariants as value
 use Rattle.sig_base.specs.declared.value.Fault.TheVariants as fault
@@ -19,8 +18,7 @@ use Rattle.live_entries.specs.declared.entry.Entry.{Entry}
 use Rattle.live_entries.specs.declared.entry.Entry.TheVariants as entry
 use Rattle.live_entries.specs.declared.label.Label.{Label}
 use Rattle.live_entries.specs.declared.refusal.Refusal.TheVariants as refusal
-use Rattle.live_entries.specs.Printed.{is_traced}
-use Rattle.live_model.specs.Examples.{told_by, a_cell, int, a_host, a_template, a_set, a_get, a_dispose, comes_to, error, gone, ran_to}
+use Rattle.live_model.specs.Examples.{told_by, a_cell, int, a_host, a_template, a_set, a_get, a_dispose, comes_to, error, gone, ran_to, untraced}
 
 -- ---- words for the examples
 
@@ -75,10 +73,6 @@ logged n = entry.Log (value.Int (pos n))
 -- a cleanup is about to be done
 abbrev pub cleaned : List ℕ → List ℕ → Entry
 cleaned n path = entry.Cleanup (child n path)
-
--- what is printed without a trace
-abbrev pub untraced : List Entry → List Entry
-untraced es = filter (λ e. not (is_traced e)) es
 
 -- ---- owners
 

@@ -20,8 +20,8 @@ use Rattle.live_cmd.specs.declared.command.Item.{Item}
 use Rattle.live_cmd.specs.declared.command.Item.TheVariants as item
 use Rattle.live_entries.specs.declared.entry.Entry.TheVariants as entry
 use Rattle.live_entries.specs.declared.refusal.Refusal.TheVariants as refusal
-use Rattle.live_model.specs.Examples.{told_by, a_cell, int, a_template, error}
-use Rattle.live_model.specs.EffectExamples.{a_flush, line_log, line_set, logged, number, simple, untraced}
+use Rattle.live_model.specs.Examples.{told_by, a_cell, int, a_template, error, untraced}
+use Rattle.live_model.specs.EffectExamples.{a_flush, line_log, line_set, logged, number, simple}
 use Rattle.live_model.specs.PageExamples.{a_mount, a_text, element, end_line, op, tag_line, text_line}
 use Rattle.live_model.specs.RowExamples.{words}
 

@@ -1,5 +1,6 @@
 -- Worked examples: a list of items, and what the machine tells of it.
-use Rattle.std.specs.Prelude.{◌≡◌, ℕ, pos, List, [], ◌∷◌, Some, None, true, false, codes}
+use Rattle.std.specs.Prelude.{◌≡◌, ℕ, pos, List, [], ◌∷◌, Some, None, true, false, not, codes}
+use Rattle.std.specs.List.{filter}
 use Rattle.std.proofs.Common.{refl}
 use Rattle.sig_base.specs.declared.scalar.Scalar.{Scalar}
 use Rattle.sig_base.specs.declared.scalar.Scalar.TheVariants as scalar
@@ -21,6 +22,7 @@ use Rattle.live_entries.specs.declared.entry.Entry.{Entry}
 use Rattle.live_entries.specs.declared.entry.Entry.TheVariants as entry
 use Rattle.live_entries.specs.declared.refusal.Refusal.{Refusal}
 use Rattle.live_entries.specs.declared.refusal.Refusal.TheVariants as refusal
+use Rattle.live_entries.specs.Printed.{is_traced}
 use Rattle.live_model.specs.Machine.{empty}
 use Rattle.live_model.specs.Output.{entries_from}
 
@@ -35,7 +37,11 @@ environment = record { hosts = λ place known. answer_of (choice (slot 0) (slot 
 abbrev pub told_by : ℕ → List Item → List Entry
 told_by hosts is = entries_from environment (empty hosts) is
 
--- a command
+-- what isn't a line of a trace
+abbrev pub untraced : List Entry → List Entry
+untraced es = filter (λ e. not (is_traced e)) es
+
+-- a cell is made
 abbrev pub a_cell : List ℕ → Scalar → Item
 a_cell n v = item.Do (command.Cell n v None None)
 

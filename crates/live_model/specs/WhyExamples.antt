@@ -13,8 +13,8 @@ use Rattle.live_cmd.specs.declared.command.Item.TheVariants as item
 use Rattle.live_entries.specs.declared.entry.Entry.TheVariants as entry
 use Rattle.live_entries.specs.declared.entry.Reason.TheVariants as reason
 use Rattle.live_entries.specs.declared.refusal.Refusal.TheVariants as refusal
-use Rattle.live_model.specs.BatchExamples.{alone, untraced}
-use Rattle.live_model.specs.Examples.{told_by, a_cell, int, a_computed, a_set, a_get, comes_to, error}
+use Rattle.live_model.specs.BatchExamples.{alone}
+use Rattle.live_model.specs.Examples.{told_by, a_cell, int, a_computed, a_set, a_get, comes_to, error, untraced}
 
 -- why a computed ran
 abbrev pub a_why : List ℕ → Item
