@@ -1,13 +1,16 @@
 // The acts of a run.
-ghost use Rattle.std.specs.Prelude.{◌+◌, ◌<◌, ◌^◌, ℕ, List, OnOk, length, map};
+ghost use Rattle.std.specs.Prelude.{◌+◌, ◌<◌, ◌^◌, ℕ, List, OnOk, length, map, slice_get};
 ghost use Rattle.std.specs.Rc.{rc_value};
+ghost use Rattle.sig_base.specs.Values.{scalar_value};
 ghost use Rattle.effect_model.specs.Bodies.{to_make, to_note};
+ghost use Rattle.effect_model.specs.Owners.{logs, sets};
 ghost use Rattle.effect_model.specs.Runs.{do_act};
 ghost use Rattle.sig_untrack.specs.Links.{act_of};
+ghost use Rattle.effect_tables.specs.Bodies.{signal_number, target_thing};
 ghost use Rattle.effect_tables.specs.Scripts.{IsFitting};
+ghost use Rattle.effect_tables.specs.declared.links.Links.TheViews.{out-Links};
 ghost use Rattle.effect_teardown.specs.Sites.{IsPart, parts_of};
 ghost use Rattle.sig_host.specs.Hosts.{HostPlace};
-ghost use Rattle.sig_owner.specs.Tables.{cleanup_of};
 ghost use Rattle.sig_effect.specs.Stores.{AreRuled};
 ghost use Rattle.effect_world.specs.Signals.{any_hosts, scene};
 ghost use Rattle.effect_world.specs.Stores.{Agrees, AreOwned};
@@ -24,25 +27,50 @@ use crate::messages::log;
 use crate::recipes::rewire;
 use effect_tables::{Links, Site};
 use effect_world::World;
-use sig_base::{EffectId, NoMemory};
+use sig_base::{EffectId, NoMemory, Scalar, Value};
 use sig_effect::Event;
 use sig_host::{EqualsRule, Lent, Shelf};
 use sig_owner::CleanupAct;
 use sig_untrack::{Act, Body};
 
-// Notes a cleanup under an effect that lives.
-fn note_there(
+// Notes a cleanup that sets the cell of a place, under an effect that lives.
+fn note_set(
     world: &mut World,
     id: EffectId,
-    cleanup: CleanupAct,
+    site: &Site,
+    links: &Links,
+    target: u32,
+    scalar: &Scalar,
     events: &mut Vec<Event>,
 ) -> Result<(), NoMemory>
     requires { AreOwned world.old }
     ensures { (asked : List HostPlace) (slacks : List ℕ) → Agrees asked world.old → OnOk result (Acted slacks
         (scene world.old asked events.old.items) (scene world.new asked events.new.items) any_hosts any_hosts 0
-        (λ env. do_act env id 0 (to_note (cleanup_of cleanup)))) }
+        (λ env. do_act env id 0 (to_note (sets
+        (signal_number (target_thing site.now.origin (slice_get (out-Links links.now).targets.items target))) (scalar_value scalar.now))))) }
 {
-    match note(world, id, cleanup, events) {
+    let cell = cell_at(site.origin, &links.targets, target);
+    let copied = scalar.copy()?;
+    match note(world, id, CleanupAct::Set(cell, copied), events) {
+        Ok(()) => Ok(()),
+        Err(_) => Err(NoMemory),
+    }
+}
+
+// Notes a cleanup that logs a value, under an effect that lives.
+fn note_log(
+    world: &mut World,
+    id: EffectId,
+    value: &Value,
+    events: &mut Vec<Event>,
+) -> Result<(), NoMemory>
+    requires { AreOwned world.old }
+    ensures { (asked : List HostPlace) (slacks : List ℕ) → Agrees asked world.old → OnOk result (Acted slacks
+        (scene world.old asked events.old.items) (scene world.new asked events.new.items) any_hosts any_hosts 0
+        (λ env. do_act env id 0 (to_note (logs value.now)))) }
+{
+    let copied = value.copy()?;
+    match note(world, id, CleanupAct::Log(copied), events) {
         Ok(()) => Ok(()),
         Err(_) => Err(NoMemory),
     }
@@ -153,14 +181,11 @@ pub fn do_act(
             Ok(())
         }
         Act::CleanupSet(target, scalar) => {
-            let cell = cell_at(site.origin, &links.targets, *target);
-            let scalar = scalar.copy()?;
-            note_there(world, id, CleanupAct::Set(cell, scalar), events)?;
+            note_set(world, id, site, links, *target, scalar, events)?;
             Ok(())
         }
         Act::CleanupLog(value) => {
-            let value = value.copy()?;
-            note_there(world, id, CleanupAct::Log(value), events)?;
+            note_log(world, id, value, events)?;
             Ok(())
         }
         Act::Effect(place) => {

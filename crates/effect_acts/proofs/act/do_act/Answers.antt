@@ -1,4 +1,4 @@
-use Rattle.std.proofs.Common.{ap, sym, ◌∙◌, arith}
+use Rattle.std.proofs.Common.{refl, ap, sym, ◌∙◌, arith}
 use Rattle.std.specs.Prelude.{slice_get}
 use Rattle.std.specs.Rc.{rc_value}
 use Rattle.sig_base.specs.Values.{scalar_value}
@@ -8,6 +8,7 @@ use Rattle.effect_model.specs.Owners.{logs, sets}
 use Rattle.effect_model.specs.Runs.{do_act}
 use Rattle.effect_model.specs.Worlds.{logged, tell}
 use Rattle.sig_untrack.specs.Links.{act_of}
+use Rattle.effect_tables.specs.declared.links.Links.TheViews.{out-Links}
 use Rattle.effect_tables.specs.Bodies.{signal_number, target_thing, thing_of}
 use Rattle.effect_teardown.specs.Sites.{parts_of}
 use Rattle.effect_acts.specs.Rewires.{rewire_meant}
@@ -18,7 +19,7 @@ use Rattle.effect_acts.proofs.act.do_act.Goals as goal
 pub returns-in_ok-set-in-Set-clause-done : goal.returns-in_ok-set-in-Set-clause-done
 returns-in_ok-set-in-Set-clause-done g c =
     let p = parts_of c.args.site.now.origin (rc_value c.args.site.now.script) c.args.site.now.path.items in
-    let n = signal_number (target_thing c.args.site.now.origin (slice_get c.deref.result c.in-Set.target)) in
+    let n = signal_number (target_thing c.args.site.now.origin (slice_get c.deref.result.now c.in-Set.target)) in
     let v = scalar_value c.in-Set.scalar in
     acted_as _ _ _ _ 1 1 (λ env. set_cell env n v) (λ env. do_act env c.args.id c.args.label (act_of p c.args.act.now))
     (λ env. ap (λ m. set_cell env m v) (cell_meant (rc_value c.args.site.now.script) c.args.site.now.path.items c.args.body.now c.args.links.now c.requires.part c.args.site.now.origin c.in-Set.target n
@@ -31,22 +32,21 @@ returns-in_ok-log-in-Log-clause-done g c =
     acted_as _ _ _ _ 0 1 (λ env. tell (logged c.in-Log.value)) (λ env. do_act env c.args.id c.args.label (act_of p c.args.act.now)) (λ env. ap (λ a. do_act env c.args.id c.args.label (act_of p a)) (sym c.in-Log.is))
     (omega arith) (c.in_ok-log-in-Log.ensures _ _ c.requires.agrees)
 
-pub returns-in_ok-note_there-in-CleanupSet-clause-done : goal.returns-in_ok-note_there-in-CleanupSet-clause-done
-returns-in_ok-note_there-in-CleanupSet-clause-done g c =
+pub returns-in_ok-note_set-in-CleanupSet-clause-done : goal.returns-in_ok-note_set-in-CleanupSet-clause-done
+returns-in_ok-note_set-in-CleanupSet-clause-done g c =
     let p = parts_of c.args.site.now.origin (rc_value c.args.site.now.script) c.args.site.now.path.items in
-    let n = c.cell_at-cell.result in
-    acted_as _ _ _ _ 0 1 (λ env. do_act env c.args.id 0 (to_note (sets n (scalar_value c.in_ok-scalar.scalar)))) (λ env. do_act env c.args.id c.args.label (act_of p c.args.act.now))
-    (λ env. (λ i. do_act env c.args.id 0 (to_note (sets (cell_meant (rc_value c.args.site.now.script) c.args.site.now.path.items c.args.body.now c.args.links.now c.requires.part c.args.site.now.origin c.in-CleanupSet.target n
-    (c.cell_at-cell.ensures ∙ ap (λ xs. signal_number (target_thing c.args.site.now.origin (slice_get xs c.in-CleanupSet.target))) c.deref-in-CleanupSet.ensures.value) i) (scalar_value (c.in_ok-scalar.ensures i)))))
+    let n = signal_number (target_thing c.args.site.now.origin (slice_get (out-Links c.args.links.now).targets.items c.in-CleanupSet.target)) in
+    let v = scalar_value c.in-CleanupSet.scalar in
+    acted_as _ _ _ _ 0 1 (λ env. do_act env c.args.id 0 (to_note (sets n v))) (λ env. do_act env c.args.id c.args.label (act_of p c.args.act.now))
+    (λ env. ap (λ m. do_act env c.args.id 0 (to_note (sets m v))) (cell_meant (rc_value c.args.site.now.script) c.args.site.now.path.items c.args.body.now c.args.links.now c.requires.part c.args.site.now.origin c.in-CleanupSet.target n refl)
     ∙ ap (λ a. do_act env c.args.id c.args.label (act_of p a)) (sym c.in-CleanupSet.is))
-    (omega arith) (c.in_ok-note_there-in-CleanupSet.ensures _ _ c.requires.agrees)
+    (omega arith) (c.in_ok-note_set-in-CleanupSet.ensures _ _ c.requires.agrees)
 
-pub returns-in_ok-note_there-in-CleanupLog-clause-done : goal.returns-in_ok-note_there-in-CleanupLog-clause-done
-returns-in_ok-note_there-in-CleanupLog-clause-done g c =
+pub returns-in_ok-note_log-in-CleanupLog-clause-done : goal.returns-in_ok-note_log-in-CleanupLog-clause-done
+returns-in_ok-note_log-in-CleanupLog-clause-done g c =
     let p = parts_of c.args.site.now.origin (rc_value c.args.site.now.script) c.args.site.now.path.items in
-    acted_as _ _ _ _ 0 1 (λ env. do_act env c.args.id 0 (to_note (logs c.in_ok-value.value))) (λ env. do_act env c.args.id c.args.label (act_of p c.args.act.now))
-    (λ env. (λ i. do_act env c.args.id 0 (to_note (logs (c.in_ok-value.ensures i)))) ∙ ap (λ a. do_act env c.args.id c.args.label (act_of p a)) (sym c.in-CleanupLog.is))
-    (omega arith) (c.in_ok-note_there-in-CleanupLog.ensures _ _ c.requires.agrees)
+    acted_as _ _ _ _ 0 1 (λ env. do_act env c.args.id 0 (to_note (logs c.in-CleanupLog.value))) (λ env. do_act env c.args.id c.args.label (act_of p c.args.act.now))
+    (λ env. ap (λ a. do_act env c.args.id c.args.label (act_of p a)) (sym c.in-CleanupLog.is)) (omega arith) (c.in_ok-note_log-in-CleanupLog.ensures _ _ c.requires.agrees)
 
 pub returns-in_ok-make_there-in-Effect-clause-done : goal.returns-in_ok-make_there-in-Effect-clause-done
 returns-in_ok-make_there-in-Effect-clause-done g c =
