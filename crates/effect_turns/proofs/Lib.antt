@@ -6,4 +6,5 @@ mod Glanced
 mod Joined
 mod Loops
 mod Alone
+mod Nearby
 pub mod Shared

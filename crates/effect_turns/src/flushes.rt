@@ -44,11 +44,13 @@ fn glance_each(
         (scene world.old (⟦<Shelf as Lent>⟧.asked shelf.old) events.old.items) (scene world.new (⟦<Shelf as Lent>⟧.asked shelf.new) events.new.items)) }
     ensures counted { OnOk result (⟦<Shelf as Lent>⟧.counted shelf.new) }
 {
+    let mut place: usize = 0;
     for id in ids {
-        let due = glance(world, shelf, *id, events)?;
+        let due = glance(world, shelf, *id, place, events)?;
         if due {
             return Ok(true);
         }
+        place = place.wrapping_add(1);
     }
     Ok(false)
 }

@@ -14,7 +14,8 @@ ghost use Rattle.effect_world.specs.Wholes.{whole_of};
 ghost use Rattle.effect_turns.specs.Runs.{CanRun, Runs, Spends};
 ghost use Rattle.effect_tables.specs.Visits.{glance, is_due};
 
-use effect_tables::{Effect, effect_at};
+use crate::near::effect_near;
+use effect_tables::Effect;
 use effect_world::World;
 use sig_base::{EffectId, NoMemory};
 use sig_computed::RunNote;
@@ -52,7 +53,7 @@ fn look_at(
     }
 }
 
-/// Looks at the effect of a number: whether it lives and is due. What it read, tracked, in its last run is settled in order, up to the first
+/// Looks at the effect of a number, which is looked for at a place first: whether it lives and is due. What it read, tracked, in its last run is settled in order, up to the first
 /// that has another outcome now.
 ///
 /// # Errors
@@ -62,6 +63,7 @@ pub(crate) fn glance(
     world: &mut World,
     shelf: &mut Shelf,
     id: EffectId,
+    place: usize,
     events: &mut Vec<Event>,
 ) -> Result<bool, NoMemory>
     requires can { CanRun (scene world.old (⟦<Shelf as Lent>⟧.asked shelf.old) events.old.items) }
@@ -77,7 +79,7 @@ pub(crate) fn glance(
 {
     let _count = events.len();
     let mut notes = Vec::new(*events.allocator());
-    let Some(effect) = effect_at(&world.tables, id) else {
+    let Some(effect) = effect_near(&world.tables, place, id) else {
         return Ok(false);
     };
     let due = look_at(&mut world.graph, shelf, effect, &mut notes)?;

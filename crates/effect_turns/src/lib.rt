@@ -3,6 +3,7 @@
 
 mod flushes;
 mod glance;
+mod near;
 mod once;
 mod run;
 mod turns;

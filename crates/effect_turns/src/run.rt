@@ -1,5 +1,5 @@
 // An effect runs.
-ghost use Rattle.std.specs.Prelude.{◌≡◌, ◌<◌, ◌≤◌, ◌+◌, ◌^◌, ℕ, List, None, IfOk, OnOk, length, map};
+ghost use Rattle.std.specs.Prelude.{◌≡◌, ◌<◌, ◌≤◌, ℕ, List, None, IfOk, OnOk, length, map};
 ghost use Rattle.std.specs.Rc.{rc_value};
 ghost use Rattle.signal_model.specs.Recipes.{Hosts};
 ghost use Rattle.signal_model.specs.Sound.{names_of};
@@ -20,7 +20,6 @@ ghost use Rattle.sig_effect.specs.Stores.{AreRuled};
 ghost use Rattle.effect_runs.specs.Evaluations.{body_seen, result_of, IsRunOf, IsShort};
 ghost use Rattle.effect_world.specs.Signals.{any_hosts, scene};
 ghost use Rattle.effect_world.specs.Stores.{Agrees, AreOwned, IsSound};
-ghost use Rattle.effect_world.specs.Costs.{weight};
 ghost use Rattle.effect_turns.specs.Runs.{CanHear, CanRun, MayAct, Runs, Spends, Uses};
 ghost use Rattle.effect_tables.specs.Visits.{rerun};
 

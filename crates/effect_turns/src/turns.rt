@@ -31,12 +31,13 @@ pub(crate) fn numbers(alloc: Global, effects: &[Effect]) -> Result<Vec<EffectId>
     Ok(ids)
 }
 
-// Looks at the effect of a number, and runs it where it lives and is due: whether it was.
+// Looks at the effect of a number, which is looked for at a place first, and runs it where it lives and is due: whether it was.
 fn visit(
     world: &mut World,
     shelf: &mut Shelf,
     rules: &[EqualsRule],
     id: EffectId,
+    place: usize,
     events: &mut Vec<Event>,
 ) -> Result<bool, NoMemory>
     requires can { CanRun (scene world.old (⟦<Shelf as Lent>⟧.asked shelf.old) events.old.items) }
@@ -51,7 +52,7 @@ fn visit(
         (scene world.old (⟦<Shelf as Lent>⟧.asked shelf.old) events.old.items) (scene world.new (⟦<Shelf as Lent>⟧.asked shelf.new) events.new.items)) }
     ensures counted { OnOk result (⟦<Shelf as Lent>⟧.counted shelf.new) }
 {
-    let due = glance(world, shelf, id, events)?;
+    let due = glance(world, shelf, id, place, events)?;
     if !due {
         return Ok(false);
     }
@@ -66,7 +67,7 @@ fn either(one: bool, other: bool) -> bool
     one || other
 }
 
-// Visits the effects of these numbers, one after the other: whether one of them was due.
+// Visits the effects of these numbers, one after the other: whether one of them was due. Where none has ended, each stands at its place.
 fn visit_each(
     world: &mut World,
     shelf: &mut Shelf,
@@ -87,9 +88,11 @@ fn visit_each(
     ensures counted { OnOk result (⟦<Shelf as Lent>⟧.counted shelf.new) }
 {
     let mut ran = false;
+    let mut place: usize = 0;
     for id in ids {
-        let due = visit(world, shelf, rules, *id, events)?;
+        let due = visit(world, shelf, rules, *id, place, events)?;
         ran = either(due, ran);
+        place = place.wrapping_add(1);
     }
     Ok(ran)
 }
