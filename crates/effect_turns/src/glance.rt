@@ -53,8 +53,8 @@ fn look_at(
     }
 }
 
-/// Looks at the effect of a number, which is looked for at a place first: whether it lives and is due. What it read, tracked, in its last run is settled in order, up to the first
-/// that has another outcome now.
+/// Looks at the effect of a number, which is looked for at a place first: whether it lives and is due. What it read, tracked, in its last run is
+/// settled in order, up to the first that has another outcome now.
 ///
 /// # Errors
 ///
