@@ -26,7 +26,8 @@ AreRows (r ∷ rs) = IsRow r × AreRows rs
 -- what is kept of both parts of what is tried
 abbrev pub IsTried : Bool → Block → Block → List ℕ → Option RowRef → Outcomes → Outcomes → Head → Type 0
 IsTried ends first second links row earlier now h =
-    (x : _) × (y : _) × ((h ≡ head.Attempt x y) × Makes (attempt_memo ends first second) links row earlier now (either (kept x.value) (kept y.value) blank))
+    (x : _) × (y : _) × ((h ≡ head.Attempt x y)
+    × Makes (attempt_memo ends first second) links row earlier now (either (kept x.value) (kept y.value) blank))
 
 -- what was heard of the first of some lines, of what is tried what is kept of both parts
 abbrev pub Opens : Bool → Block → List ℕ → Option RowRef → Outcomes → Outcomes → Head → Type 0
@@ -146,7 +147,8 @@ closed (head.Each h) inside later = loop (heard_of h) (rows_of h.outcome inside)
 closed (head.Attempt x y) inside later = either (kept x.value) (kept y.value) (last_of later)
 
 -- what lines were made once, behind what was kept, and others were made later
-pub record MakesFirst (ends : Bool) (b : Block) (links : List ℕ) (row : Option RowRef) (earlier : Outcomes) (Later : Outcomes → PageMemo → Type 0) : Type 0 where
+pub record MakesFirst (ends : Bool) (b : Block) (links : List ℕ) (row : Option RowRef) (earlier : Outcomes) (Later : Outcomes → PageMemo → Type 0)
+    : Type 0 where
   pub mid : Outcomes
   pub memo : PageMemo
   pub made : Makes (part_memo ends b) links row earlier mid memo

@@ -1,6 +1,7 @@
 -- What is kept of lines, made one line after the other.
 use Rattle.std.proofs.Common.{◌≡◌, ℕ, ◌+◌, ◌<◌, Bool, true, false, ◌&&◌, ◌||◌, inl, inr, List, [], ◌∷◌, ◌++◌, length, take, get_or, map, Option, Some, None, append_assoc, refl, sym, ap, ◌∙◌}
 use Rattle.std.specs.Map.{keys_of}
+use Rattle.std.proofs.Math.Bool.{or_assoc}
 use Rattle.std.proofs.lemmas.Bool.{and_right, cases_Bool, false≢true}
 use Rattle.std.proofs.lemmas.List.{append-nil, map-append, take_more}
 use Rattle.sig_base.specs.declared.value.Value.{Value}
@@ -19,19 +20,11 @@ use Rattle.tpl_model.specs.Shapes.{Here, is_fault, row_here}
 use Rattle.tpl_model.specs.Sources.{evaluating}
 use Rattle.tpl_hearing.specs.Heard.{Evaluates, Grows, Outcomes, heard_of, recipe_of, WereHeard}
 use Rattle.tpl_hearing.proofs.Shared.{still_heard}
+use Rattle.page_model.proofs.Shared.{or_none}
+use Rattle.tpl_model.proofs.Shared.{left_off, right_off}
 use Rattle.tpl_model.specs.KeptLines.Kept.{rows_of}
 use Rattle.tpl_model.specs.PageUpdates.PageMemos.{Heard, Hearing, PageMemo, unread, blank, line, element, branch, loop, either, hearing, any_fault, attributes_heard, all_names, each_memo, failed, memo_of, names, picks, unless, where_ended}
 use Rattle.tpl_model.specs.KeptLines.Memos.{Agrees, Keeping, Listens, ListensUpTo, Makes, attempt_memo, branch_part, loop_part, part_memo, rows_in, table_in, truth_in}
-
--- ---- one of several
-
-pub or_none : (a : Bool) → (a || false) ≡ a
-or_none true = refl
-or_none false = refl
-
-pub or_assoc : (a b c : Bool) → ((a || b) || c) ≡ (a || (b || c))
-or_assoc true b c = refl
-or_assoc false b c = refl
 
 -- ---- what was heard
 
@@ -93,17 +86,6 @@ mapped_put f xs ys x e = ap (map f) e ∙ map-append f xs (x ∷ [])
 pub none_listened : (ends : Bool) (links : List ℕ) (row : Option RowRef) (heard : Outcomes) → ListensUpTo ends [] links row heard heard []
 none_listened ends links row heard = record { is = λ source agrees. refl; order = refl }
 
--- a fault among the first is one of all
-no_first_fault : (ends a b : Bool) → (ends && (a || b)) ≡ false → (ends && a) ≡ false
-no_first_fault true true b h = absurd cc
-no_first_fault true false b h = refl
-no_first_fault false a b h = refl
-
-no_later_fault : (ends a b : Bool) → (ends && (a || b)) ≡ false → (ends && b) ≡ false
-no_later_fault true true b h = absurd cc
-no_later_fault true false b h = h
-no_later_fault false a b h = refl
-
 -- one attribute more, where none met a fault so far or hearing goes on
 attributes_more : (ends : Bool) (hear : Hearing) (row : Option RowRef) (xs : List (List ℕ × Tree)) (x : List ℕ × Tree) →
     (ends && any_fault (attributes_heard ends hear row xs)) ≡ false →
@@ -112,10 +94,10 @@ attributes_more ends hear row [] x h = elim (cases_Bool (ends && is_fault (hear 
 attributes_more ends hear row (y ∷ ys) x h = elim (cases_Bool (ends && is_fault (hear row y.1).outcome)) [
   | inl e ↦ (
       let k : (ends && (is_fault (hear row y.1).outcome || false)) ≡ false = rw e at h in
-      absurd (false≢true (sym (no_first_fault ends (is_fault (hear row y.1).outcome) false k) ∙ e)))
+      absurd (false≢true (sym (left_off ends (is_fault (hear row y.1).outcome) false k) ∙ e)))
   | inr e ↦ (
       let k : (ends && (is_fault (hear row y.1).outcome || any_fault (attributes_heard ends hear row ys))) ≡ false = rw e at h in
-      rw e (ap (λ z. hear row y.1 ∷ z) (attributes_more ends hear row ys x (no_later_fault ends (is_fault (hear row y.1).outcome) _ k))))
+      rw e (ap (λ z. hear row y.1 ∷ z) (attributes_more ends hear row ys x (right_off ends (is_fault (hear row y.1).outcome) _ k))))
 ]
 
 -- behind a fault at which hearing ends no attribute is heard
@@ -399,7 +381,7 @@ attempt_made ends links row first second rest a b c x y r m parts g later same =
 -- ---- names that are put behind others
 
 -- names, and then others
-then_put : (a b c xs ys : List ℕ) → b ≡ a ++ xs → c ≡ b ++ ys → c ≡ a ++ (xs ++ ys)
+pub then_put : (a b c xs ys : List ℕ) → b ≡ a ++ xs → c ≡ b ++ ys → c ≡ a ++ (xs ++ ys)
 then_put a b c xs ys h k = k ∙ (ap (λ z. z ++ ys) h ∙ append_assoc a xs ys)
 
 -- those of one attribute more

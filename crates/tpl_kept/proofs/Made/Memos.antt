@@ -3,6 +3,8 @@ use denote.Ref.{Bor}
 use Rattle.std.specs.Prelude.{IfSome, ◌&&◌, ◌||◌}
 use Rattle.std.specs.Option.{option_copied, unwrap_or}
 use Rattle.std.proofs.Common.{◌≡◌, ◌<◌, ◌≤◌, ◌+◌, ◌^◌, ℕ, zero, suc, Bool, true, false, List, [], ◌∷◌, ◌++◌, length, map, Option, Some, None, append_assoc, append-nil, refl, sym, ap, ap₂, subst, ◌∙◌, ◌⊎◌, ⊎_elim, inl, inr, arith}
+use Rattle.std.proofs.Math.Bool.{or_assoc}
+use Rattle.page_model.proofs.Shared.{or_none}
 use Rattle.sig_base.specs.Tables.{Table}
 use Rattle.sig_formula.specs.Trees.{Tree}
 use Rattle.sig_formula.specs.declared.formula.RowRef.{RowRef}
@@ -17,7 +19,7 @@ use Rattle.sig_base.specs.declared.value.Outcome.TheVariants.{Good, Bad}
 use Rattle.tpl_model.specs.Shapes.{is_fault}
 use Rattle.tpl_model.specs.PageUpdates.PageMemos.{PageMemo, unread, blank, failed, any_fault}
 use Rattle.tpl_model.specs.KeptLines.Memos.{Makes, branch_part, loop_part, part_memo, rows_in, table_in, truth_in}
-use Rattle.tpl_kept.proofs.Listened.Sequences.{mapped_put, none_made, over_made, text_made, element_made, neither_made, branch_made, loop_made, attempt_made, unless_over, or_assoc, or_none}
+use Rattle.tpl_kept.proofs.Listened.Sequences.{mapped_put, none_made, over_made, text_made, element_made, neither_made, branch_made, loop_made, attempt_made, unless_over}
 use Rattle.tpl_kept.proofs.Listened.Rowed.{row_at, RowsMade, none_rowed, one_rowed, rows_ended, rows_made}
 use Rattle.tpl_kept.specs.Heads.{AreRows, IsRow, MakesEach, Opens, TellsFault, WhereOver, any_failed, behind, closed, inner_in, last_of, last_read, lines_size, met_fault, places_from, places_in, rest_in, shows_first, unless_ended, where_shown}
 use Rattle.tpl_kept.specs.declared.making.head.Head.{Head}

@@ -1,21 +1,19 @@
 -- What was kept of lines, taken apart, is what was kept of each of them, and serves where they are gone over again.
-use Rattle.std.specs.Prelude.{unwrap_or}
 use Rattle.std.proofs.Common.{◌≡◌, ℕ, Bool, true, false, List, [], ◌∷◌, map, Option, Some, None, refl, sym, ap, subst, ◌∙◌, arith}
-use Rattle.sig_base.specs.declared.value.Fault.TheVariants.{Gone}
+use Rattle.std.specs.Prelude.{unwrap_or}
 use Rattle.sig_base.specs.declared.value.Outcome.{Outcome}
-use Rattle.sig_base.specs.declared.value.Outcome.TheVariants.{Bad}
 use Rattle.sig_formula.specs.Trees.{Tree}
 use Rattle.sig_formula.specs.declared.formula.RowRef.{RowRef}
 use Rattle.tpl_model.specs.Lines.{Block, empty, text, tag, choice, each, attempt}
-use Rattle.tpl_model.specs.Shapes.{Here, row_here}
 use Rattle.tpl_hearing.specs.Heard.{Outcomes}
 use Rattle.tpl_hearing.proofs.Shared.{outcome_in}
 use Rattle.tpl_model.specs.KeptLines.Kept.{heard_of, kept}
 use Rattle.tpl_model.specs.declared.memo.Heard.{Heard}
 use Rattle.tpl_model.specs.PageUpdates.PageMemos.{PageMemo, unread, blank, line, element, branch, loop, either}
-use Rattle.tpl_model.specs.KeptLines.Memos.{Agrees, branch_memo, lines_memo, table_in, truth_in}
+use Rattle.tpl_model.specs.KeptLines.Memos.{branch_memo, lines_memo, table_in, truth_in}
 use Rattle.tpl_model.specs.KeptLines.Before.{WasMade}
 use Rattle.tpl_kept.specs.Renewals.{is_unread}
+use Rattle.tpl_kept.proofs.Listened.Reuse.{any_here, any_row, in_agrees}
 use Rattle.tpl_kept.proofs.Listened.Splits.{attempt_was, branch_stays, branch_was, element_was, if_read, loop_was, text_was}
 use Rattle.tpl_kept.proofs.Listened.Slots.{slots_were}
 use Rattle.tpl_kept.specs.declared.making.head.Head.{Head}
@@ -59,25 +57,14 @@ closed_kind (head.Choice h) is rs = refl
 closed_kind (head.Each h) is rs = refl
 closed_kind (head.Attempt x y) is rs = refl
 
-abbrev any_place : Option RowRef → Option Here
-any_place None = None
-any_place (Some r) = Some (record { key = []; row = r })
-
-any_is : (row : Option RowRef) → row_here (any_place row) ≡ row
-any_is None = refl
-any_is (Some r) = refl
-
-agrees_in : (heard : Outcomes) → Agrees heard (outcome_in heard)
-agrees_in heard = record { each = λ n o h. ap (λ (z : Option Outcome). unwrap_or z (Bad Gone)) h }
-
 was_kind : (b : Block) (links : List ℕ) (row : Option RowRef) (before : Outcomes) (m : PageMemo) → WasMade (lines_memo b) links row before m →
     kind m ≡ block_kind b
-was_kind empty links row before m was = ap kind (was.is (outcome_in before) (agrees_in before) (any_place row) (any_is row))
-was_kind (text n f rest) links row before m was = ap kind (was.is (outcome_in before) (agrees_in before) (any_place row) (any_is row))
-was_kind (tag n name xs inner rest) links row before m was = ap kind (was.is (outcome_in before) (agrees_in before) (any_place row) (any_is row))
-was_kind (choice f one other rest) links row before m was = ap kind (was.is (outcome_in before) (agrees_in before) (any_place row) (any_is row))
-was_kind (each f inner rest) links row before m was = ap kind (was.is (outcome_in before) (agrees_in before) (any_place row) (any_is row))
-was_kind (attempt a b rest) links row before m was = ap kind (was.is (outcome_in before) (agrees_in before) (any_place row) (any_is row))
+was_kind empty links row before m was = ap kind (was.is (outcome_in before) (in_agrees before) (any_here row) (any_row row))
+was_kind (text n f rest) links row before m was = ap kind (was.is (outcome_in before) (in_agrees before) (any_here row) (any_row row))
+was_kind (tag n name xs inner rest) links row before m was = ap kind (was.is (outcome_in before) (in_agrees before) (any_here row) (any_row row))
+was_kind (choice f one other rest) links row before m was = ap kind (was.is (outcome_in before) (in_agrees before) (any_here row) (any_row row))
+was_kind (each f inner rest) links row before m was = ap kind (was.is (outcome_in before) (in_agrees before) (any_here row) (any_row row))
+was_kind (attempt a b rest) links row before m was = ap kind (was.is (outcome_in before) (in_agrees before) (any_here row) (any_row row))
 
 -- ---- the parts
 

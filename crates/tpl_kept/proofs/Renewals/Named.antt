@@ -1,71 +1,31 @@
 -- Names that are put behind others.
-use Rattle.std.proofs.Common.{◌≡◌, ℕ, zero, suc, ◌+◌, ◌<◌, List, [], ◌∷◌, ◌++◌, length, take, drop, get_or, map, append_assoc, refl, sym, ap, ◌∙◌, arith}
+use Rattle.std.proofs.Common.{◌≡◌, ℕ, suc, ◌+◌, ◌<◌, ◌≤◌, List, [], ◌∷◌, ◌++◌, length, take, get_or, map, refl, sym, ap, ◌∙◌}
 use Rattle.std.specs.List.{flat_map}
-use Rattle.std.proofs.lemmas.List.{append-nil, drop_more}
+use Rattle.std.proofs.lemmas.Grind.{flat_map-append}
+use Rattle.std.proofs.lemmas.List.{append-nil, take_all, take-map}
 use Rattle.sig_base.specs.Tables.{Table}
-use Rattle.sig_base.specs.declared.value.Value.TheVariants as value
-use Rattle.sig_base.specs.declared.value.Outcome.{Outcome}
-use Rattle.sig_base.specs.declared.value.Outcome.TheVariants.{Good, Bad}
 use Rattle.sig_base.specs.declared.rows.Row.{Row}
 use Rattle.tpl_model.specs.PageUpdates.PageMemos.{Heard, PageMemo, line, element, branch, loop, all_names, names, either}
 use Rattle.tpl_model.specs.KeptLines.Kept.{rows_from, rows_of}
-use Rattle.tpl_model.specs.KeptLines.Memos.{rows_in, table_in}
-use Rattle.tpl_kept.proofs.Listened.Sequences.{mapped_more}
-
--- names, and then others
-then_put : (a b c xs ys : List ℕ) → b ≡ a ++ xs → c ≡ b ++ ys → c ≡ a ++ (xs ++ ys)
-then_put a b c xs ys h k = k ∙ (ap (λ z. z ++ ys) h ∙ append_assoc a xs ys)
-
--- ---- of attributes
-
-names_more : (hs : List Heard) (h : Heard) → all_names (hs ++ h ∷ []) ≡ all_names hs ++ h.names
-names_more [] h = append-nil h.names
-names_more (x ∷ hs) h = ap (λ z. x.names ++ z) (names_more hs h) ∙ sym (append_assoc x.names (all_names hs) h.names)
-
-pub each_put : {A : Type 0} (f : A → Heard) (all : List A) (i : ℕ) (x : A) (a b c : List ℕ) → i < length all → x ≡ get_or all i x →
-    b ≡ a ++ all_names (map f (take i all)) → c ≡ b ++ (f x).names → c ≡ a ++ all_names (map f (take (i + 1) all))
-each_put f all i x a b c lt is h k =
-    then_put a b c (all_names (map f (take i all))) (f x).names h k
-    ∙ ap (λ z. a ++ z) (sym (names_more (map f (take i all)) (f x)) ∙ ap all_names (sym (mapped_more f all i x lt is)))
+use Rattle.tpl_model.specs.KeptLines.Memos.{table_in}
+use Rattle.tpl_kept.proofs.Listened.Sequences.{mapped_more, rows_picked, then_put}
 
 -- ---- of rows
 
 -- those of one row more
-pub row_put : {A : Type 0} (f : A → PageMemo) (all : List A) (i : ℕ) (x : A) (left more : ℕ) (a b w : List ℕ) → i < length all → x ≡ get_or all i x →
-    left ≡ more + 1 → b ≡ a ++ names (f x) → a ++ flat_map names (take left (map f (drop i all))) ≡ w →
-    b ++ flat_map names (take more (map f (drop (i + 1) all))) ≡ w
-row_put f all i x left more a b w lt is n e h =
-    let ys = drop (i + 1) all in
-    let d : drop i all ≡ x ∷ ys = drop_more all i x lt ∙ ap (λ z. z ∷ ys) (sym is) in
-    let k : left ≡ suc more = omega (arith, n) in
-    let rest = flat_map names (take more (map f ys)) in
-    let step : flat_map names (take left (map f (drop i all))) ≡ names (f x) ++ rest = (λ j. flat_map names (take (k j) (map f (d j)))) in
-    ap (λ z. z ++ rest) e ∙ (append_assoc a (names (f x)) rest ∙ (ap (λ z. a ++ z) (sym step) ∙ h))
+pub row_put : {A : Type 0} (f : A → PageMemo) (all : List A) (i : ℕ) (x : A) (a b c : List ℕ) → i < length all → x ≡ get_or all i x →
+    b ≡ a ++ flat_map names (map f (take i all)) → c ≡ b ++ names (f x) → c ≡ a ++ flat_map names (map f (take (i + 1) all))
+row_put f all i x a b c lt is h k =
+    let more : flat_map names (map f (take (i + 1) all)) ≡ flat_map names (map f (take i all)) ++ names (f x) =
+    ap (flat_map names) (mapped_more f all i x lt is) ∙ (flat_map-append names (map f (take i all)) (f x ∷ [])
+    ∙ ap (λ z. flat_map names (map f (take i all)) ++ z) (append-nil (names (f x)))) in
+    then_put a b c (flat_map names (map f (take i all))) (names (f x)) h k ∙ ap (λ z. a ++ z) (sym more)
 
--- none is left to put
-pub row_past : {A : Type 0} (f : A → PageMemo) (all : List A) (i left : ℕ) (a w : List ℕ) → left ≡ 0 →
-    a ++ flat_map names (take left (map f (drop i all))) ≡ w → a ++ flat_map names (take left (map f (drop (i + 1) all))) ≡ w
-row_past f all i left a w n h =
-    (ap (λ z. a ++ flat_map names (take z (map f (drop (i + 1) all)))) n ∙ ap (λ z. a ++ flat_map names (take z (map f (drop i all)))) (sym n)) ∙ h
-
-take_none : (n : ℕ) → take {A = PageMemo} n [] ≡ []
-take_none zero = refl
-take_none (suc n) = refl
-
--- there is no other row
-pub rows_put : {A : Type 0} (f : A → PageMemo) (all : List A) (i left : ℕ) (a w : List ℕ) → drop i all ≡ [] →
-    a ++ flat_map names (take left (map f (drop i all))) ≡ w → a ≡ w
-rows_put f all i left a w e h =
-    let none : flat_map names (take left (map f (drop i all))) ≡ [] = ap (λ z. flat_map names (take left (map f z))) e ∙ ap (flat_map names) (take_none left) in
-    sym (ap (λ z. a ++ z) none ∙ append-nil a) ∙ h
-
--- the rows that an outcome is
-rows_picked : (o : Outcome) (ms : List PageMemo) → rows_of o ms ≡ rows_in (table_in o) ms
-rows_picked (Good (value.Bool b)) ms = refl
-rows_picked (Good (value.Int n)) ms = refl
-rows_picked (Good (value.Text s)) ms = refl
-rows_picked (Good (value.Rows t)) ms = refl
-rows_picked (Bad e) ms = refl
+-- those of all rows, as many as there are
+pub rows_put : {A : Type 0} (f : A → PageMemo) (all items : List A) (count i : ℕ) (a b : List ℕ) → items ≡ take count all → length items ≤ i →
+    b ≡ a ++ flat_map names (map f (take i items)) → b ≡ a ++ flat_map names (take count (map f all))
+rows_put f all items count i a b is past h =
+    h ∙ ap (λ z. a ++ flat_map names z) (ap (map f) (take_all i items past ∙ is) ∙ sym (take-map f count all))
 
 -- what is kept for rows has the names of as many as the table has
 rows_names : (t : Table) (i : ℕ) (rs : List Row) (ms : List PageMemo) → names (rows_from t i rs ms) ≡ flat_map names (take (length rs) ms)

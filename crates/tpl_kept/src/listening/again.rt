@@ -1,8 +1,7 @@
 // What is heard of lines whose formulas were heard before.
-ghost use Rattle.std.specs.Prelude.{◌≡◌, ◌<◌, ◌++◌, length, map, true, IfOk, IfSome, OnOk};
+ghost use Rattle.std.specs.Prelude.{◌≡◌, ◌<◌, length, map, true, IfOk, IfSome, OnOk};
 ghost use Rattle.std.specs.Option.{option_copied};
 ghost use Rattle.sig_formula.specs.Trees.{tree};
-ghost use Rattle.tpl_model.specs.PageUpdates.PageMemos.{all_names};
 ghost use Rattle.tpl_hearing.specs.Heard.{scene, CanSettle, Hears};
 ghost use Rattle.tpl_hearing.specs.HeardAgain.{AreCompared};
 ghost use Rattle.tpl_model.specs.KeptLines.Kept.{heard_of};
@@ -10,6 +9,7 @@ ghost use Rattle.tpl_model.specs.KeptLines.Memos.{Listens, ListensAll};
 ghost use Rattle.tpl_model.specs.KeptLines.Before.{WasListened, WasListenedAll};
 
 use crate::listening::formulas::{listen, listen_all};
+use crate::listening::names::put_each;
 use sig_base::{NoMemory, NodeId, Text};
 use sig_computed::RunNote;
 use sig_formula::{Formula, RowRef};
@@ -18,26 +18,6 @@ use sig_nodes::Graph;
 use std::alloc::Global;
 use tpl_hearing::{Outcomes, Rehearing, hear_again};
 use tpl_model::Heard;
-
-// Names behind others.
-fn put_all(out: &mut Vec<NodeId>, ids: &[NodeId]) -> Result<(), NoMemory>
-    ensures { OnOk result (out.new.items ≡ out.old.items ++ ids.now) }
-{
-    for id in ids {
-        out.push(*id)?;
-    }
-    Ok(())
-}
-
-// The names of attributes behind others.
-fn put_each(out: &mut Vec<NodeId>, all: &[Heard]) -> Result<(), NoMemory>
-    ensures { OnOk result (out.new.items ≡ out.old.items ++ all_names (map heard_of all.now)) }
-{
-    for heard in all {
-        put_all(out, &heard.names)?;
-    }
-    Ok(())
-}
 
 /// What is heard of the formula of a line now, and whether its names are as before: then it isn't evaluated, and this was heard of it before. It
 /// asks for and gives back what each hearing does, of graph, shelf and comparisons, and asks that the row has its place and that this was heard

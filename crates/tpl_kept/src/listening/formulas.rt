@@ -1,21 +1,20 @@
 // What is heard of the formulas of lines.
-ghost use Rattle.std.specs.Prelude.{◌≡◌, ◌<◌, ◌&&◌, length, map, IfOk, IfSome, OnOk};
+ghost use Rattle.std.specs.Prelude.{◌≡◌, ◌<◌, length, map, IfOk, IfSome, OnOk};
 ghost use Rattle.std.specs.Option.{option_copied};
 ghost use Rattle.sig_formula.specs.Trees.{tree};
 ghost use Rattle.signal_model.specs.Sound.{names_of};
 ghost use Rattle.tpl_hearing.specs.Heard.{scene, CanSettle, Hears};
 ghost use Rattle.tpl_model.specs.KeptLines.Kept.{heard_of};
 ghost use Rattle.tpl_model.specs.KeptLines.Memos.{Listens, ListensUpTo};
-ghost use Rattle.tpl_model.specs.Shapes.{is_fault};
 
-use sig_base::{NoMemory, NodeId, Outcome, Text};
+use sig_base::{NoMemory, NodeId, Text};
 use sig_computed::RunNote;
 use sig_formula::{Formula, RowRef};
 use sig_host::{Lent, Shelf};
 use sig_nodes::Graph;
 use std::alloc::Global;
 use tpl_hearing::{Evaluated, Outcomes, Read, evaluate};
-use tpl_model::Heard;
+use tpl_model::{Heard, is_fault, is_over};
 
 // The names that were read, in order.
 fn names(alloc: Global, reads: &[Read]) -> Result<Vec<NodeId>, NoMemory>
@@ -67,23 +66,6 @@ pub fn listen(
     let evaluated = evaluate(alloc, graph, shelf, heard, formula, row, links, notes)?;
     let line = heard_in(alloc, evaluated)?;
     Ok(line)
-}
-
-/// Whether an outcome is a fault.
-pub(crate) fn is_fault(outcome: &Outcome) -> bool
-    ensures { result ≡ is_fault outcome.now }
-{
-    match outcome {
-        Outcome::Good(_) => false,
-        Outcome::Bad(_) => true,
-    }
-}
-
-/// Whether lines end, where they end at a fault or don't, and one was met or wasn't.
-pub(crate) fn is_over(ends: bool, failed: bool) -> bool
-    ensures { result ≡ (ends && failed) }
-{
-    ends && failed
 }
 
 /// What is heard of the formulas of attributes, one after the other, up to the first that meets a fault where lines end at one.

@@ -8,9 +8,9 @@ ghost use Rattle.tpl_model.specs.KeptLines.Memos.{lines_memo, part_memo, Makes};
 ghost use Rattle.tpl_model.specs.PageUpdates.PageMemos.{failed};
 ghost use Rattle.tpl_kept.specs.Heads.{last_read, met_fault, places_in, AreRows, IsRow, IsTried, MakesEach, OpensOn, TellsFault};
 
-use crate::listening::{is_fault, is_over, listen, listen_all};
+use crate::listening::{listen, listen_all};
 use crate::making::head::{
-    Head, Tried, Turn, any_fault, attempted, either, first_part, inner_of, last, lent_row, own_row,
+    Head, Tried, Turn, any_fault, attempted, first_part, inner_of, last, lent_row, own_row,
     place_behind, place_tried, places_inside, put_turn, rest_of, second_part, shows_first,
     unless_ended,
 };
@@ -23,7 +23,7 @@ use std::alloc::Global;
 use std::slice;
 use tpl_blocks::Block;
 use tpl_hearing::Outcomes;
-use tpl_model::PageMemo;
+use tpl_model::{PageMemo, either_failed, is_fault, is_over};
 
 /// What is kept of lines that were made, and whether one of them met a fault.
 #[derive(Drop)]
@@ -187,39 +187,25 @@ fn put_each(
         alloc, graph, shelf, heard, lines, links, ends, row, tried, notes,
     )?;
     let inner = inner_of(lines, shows_first(&turn.head));
+    let places = &turn.places;
+    let within = &mut turn.inside;
     let inside = put_each(
-        alloc,
-        graph,
-        shelf,
-        heard,
-        inner,
-        links,
-        ends,
-        &turn.places,
-        notes,
-        &mut turn.inside,
+        alloc, graph, shelf, heard, inner, links, ends, places, notes, within,
     )?;
-    let met = either(turn.failed, inside);
+    let met = either_failed(turn.failed, inside);
     let behind = place_behind(&turn.head, is_over(ends, met), row);
+    let rest = rest_of(lines);
+    let after = &mut turn.later;
     let later = put_each(
-        alloc,
-        graph,
-        shelf,
-        heard,
-        rest_of(lines),
-        links,
-        ends,
-        behind,
-        notes,
-        &mut turn.later,
+        alloc, graph, shelf, heard, rest, links, ends, behind, notes, after,
     )?;
     put_turn(alloc, turn, done)?;
-    let own = either(met, later);
+    let own = either_failed(met, later);
     let left = unless_ended(is_over(ends, own), others);
     let last = put_each(
         alloc, graph, shelf, heard, lines, links, ends, left, notes, done,
     )?;
-    Ok(either(own, last))
+    Ok(either_failed(own, last))
 }
 
 // What is kept of lines, in the row where they stand, up to the first that meets a fault where they end at one; and whether one met a fault.

@@ -1,5 +1,5 @@
 // What is heard of the first of some lines, where the lines inside it and behind it are made, and how these are put together.
-ghost use Rattle.std.specs.Prelude.{◌≡◌, ◌<◌, ◌||◌, [], ◌∷◌, ◌++◌, length, map, IfOk, IfSome, OnOk};
+ghost use Rattle.std.specs.Prelude.{◌≡◌, ◌<◌, [], ◌∷◌, ◌++◌, length, map, IfOk, IfSome, OnOk};
 ghost use Rattle.std.specs.Option.{option_copied};
 ghost use Rattle.tpl_blocks.specs.Blocks.{block};
 ghost use Rattle.tpl_model.specs.KeptLines.Kept.{kept};
@@ -8,13 +8,13 @@ ghost use Rattle.tpl_model.specs.KeptLines.Kept.{heard_of};
 ghost use Rattle.tpl_model.specs.PageUpdates.PageMemos.{any_fault};
 ghost use Rattle.tpl_kept.specs.Heads.{behind, closed, first_part, inner_in, last_of, last_read, places_from, places_in, places_tried, rest_in, second_part, shows_first, unless_ended, IsAttempted, IsRow};
 
-use crate::listening::{is_fault, is_over, row_at, row_count, truth_of};
+use crate::listening::{row_at, row_count, truth_of};
 use sig_base::{NoMemory, Outcome};
 use sig_formula::RowRef;
 use std::alloc::Global;
 use std::slice;
 use tpl_blocks::Block;
-use tpl_model::{Heard, PageMemo};
+use tpl_model::{Heard, PageMemo, either_failed, is_fault, is_over};
 
 /// What is heard of the first of some lines.
 #[derive(Drop)]
@@ -119,20 +119,13 @@ pub(crate) fn place_tried<'a>(lines: &Block, row: &'a Option<RowRef>) -> &'a [Op
     }
 }
 
-/// Whether lines met a fault, or others did.
-pub(crate) fn either(failed: bool, later: bool) -> bool
-    ensures { result ≡ (failed || later) }
-{
-    failed || later
-}
-
 /// Whether one of some attributes met a fault.
 pub(crate) fn any_fault(all: &[Heard]) -> bool
     ensures { result ≡ any_fault (map heard_of all.now) }
 {
     let mut failed = false;
     for heard in all {
-        failed = either(failed, is_fault(&heard.outcome));
+        failed = either_failed(failed, is_fault(&heard.outcome));
     }
     failed
 }

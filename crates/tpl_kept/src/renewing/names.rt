@@ -1,30 +1,22 @@
 // The names that are kept of lines, in the order in which they were read.
-ghost use Rattle.std.specs.Prelude.{◌≡◌, ◌++◌, map, OnOk};
-ghost use Rattle.tpl_model.specs.PageUpdates.PageMemos.{all_names, names};
-ghost use Rattle.tpl_model.specs.KeptLines.Kept.{heard_of, kept};
+ghost use Rattle.std.specs.Prelude.{◌≡◌, ◌++◌, take, OnOk};
+ghost use Rattle.tpl_model.specs.PageUpdates.PageMemos.{names};
+ghost use Rattle.tpl_model.specs.KeptLines.Kept.{kept};
 
-use crate::listening::row_count;
+use crate::listening::{put_all, put_each, row_count};
 use sig_base::{NoMemory, NodeId};
-use tpl_model::{Heard, PageMemo};
+use tpl_model::PageMemo;
 
-// Names behind others.
-fn put_all(out: &mut Vec<NodeId>, ids: &[NodeId]) -> Result<(), NoMemory>
-    ensures { OnOk result (out.new.items ≡ out.old.items ++ ids.now) }
+// What is kept of as many rows as there are; past the end of the table none is one.
+#[tactic(auto, using(std::proofs::lemmas::List::take_all))]
+fn as_many(rows: &[PageMemo], count: usize) -> &[PageMemo]
+    ensures { result.now ≡ take count rows.now }
 {
-    for id in ids {
-        out.push(*id)?;
+    if count < rows.len() {
+        &rows[..count]
+    } else {
+        rows
     }
-    Ok(())
-}
-
-// The names of attributes behind others.
-fn put_each(out: &mut Vec<NodeId>, all: &[Heard]) -> Result<(), NoMemory>
-    ensures { OnOk result (out.new.items ≡ out.old.items ++ all_names (map heard_of all.now)) }
-{
-    for heard in all {
-        put_all(out, &heard.names)?;
-    }
-    Ok(())
 }
 
 /// The names of what is kept behind others.
@@ -59,13 +51,9 @@ pub(crate) fn put_names(out: &mut Vec<NodeId>, memo: &PageMemo) -> Result<(), No
         }
         PageMemo::Loop(line, rows, rest) => {
             put_all(out, &line.names)?;
-            // rows past the end of the table are none
-            let mut left = row_count(&line.outcome);
-            for row in rows {
-                if left > 0 {
-                    put_names(out, row)?;
-                    left -= 1;
-                }
+            let count = row_count(&line.outcome);
+            for row in as_many(rows, count) {
+                put_names(out, row)?;
             }
             put_names(out, rest)?;
             Ok(())

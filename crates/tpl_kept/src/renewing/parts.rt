@@ -199,9 +199,11 @@ fn branch_was(
     Ok(one)
 }
 
-/// What was kept inside a line, as far as it serves where the line is gone over again: `was` is what its test or its rows came to before.
+/// What was kept inside a line, as far as it serves where the line is gone over again: `was` is what its test or its rows came to before, and `same`
+/// whether the line is known to be the same.
 pub(crate) fn inside_was(
     alloc: Global,
+    same: bool,
     was: &Outcome,
     head: &Head,
     inside: Vec<PageMemo>,
@@ -218,7 +220,7 @@ pub(crate) fn inside_was(
             Ok(one)
         }
         Head::Each(rows) => {
-            let each = rows_were(alloc, was, &rows.outcome, inside)?;
+            let each = rows_were(alloc, same, was, &rows.outcome, inside)?;
             Ok(each)
         }
         _ => Ok(VecDeque::new(alloc)),
@@ -289,8 +291,8 @@ pub(crate) fn taken_up(
     ensures later_changes { IfOk result (λ t. t.later_changes.items ≡ []) }
 {
     let places = places_inside(alloc, &head, false, row)?;
-    let inside_was = inside_was(alloc, was, &head, inside)?;
     let same = is_same(was, &head, heard);
+    let inside_was = inside_was(alloc, same, was, &head, inside)?;
     let later_was = waiting(alloc, Box::into_inner(later))?;
     let first = Box::new(alloc, First::Line(Box::into_inner(head)))?;
     Ok(Turn {

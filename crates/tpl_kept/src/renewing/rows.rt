@@ -69,8 +69,16 @@ fn places_among(alloc: Global, was: &Rows, rows: &Rows) -> Result<IndexMap<Text,
     Ok(places)
 }
 
-// So it is of the rows that an outcome was, for those that it is now.
-fn places(alloc: Global, was: &Outcome, next: &Outcome) -> Result<IndexMap<Text, usize>, NoMemory> {
+// So it is of the rows that an outcome was, for those that it is now; of rows that have the same keys it is known.
+fn places(
+    alloc: Global,
+    same: bool,
+    was: &Outcome,
+    next: &Outcome,
+) -> Result<IndexMap<Text, usize>, NoMemory> {
+    if same {
+        return Ok(IndexMap::new(alloc));
+    }
     match (was, next) {
         (Outcome::Good(Value::Rows(was)), Outcome::Good(Value::Rows(rows))) => {
             let places = places_among(alloc, was, rows)?;
@@ -161,13 +169,15 @@ fn take_row(old: &mut Vec<PageMemo>, place: Option<usize>) -> PageMemo
     mem::replace(&mut old[place], PageMemo::Unread)
 }
 
-/// What was kept for rows, each where there now is a row of the same key and values.
+/// What was kept for rows, each where there now is a row of the same key and values; where it is known that the rows have the same keys, in the same
+/// order, each is looked for at its own place alone.
 ///
 /// # Errors
 ///
 /// `NoMemory` alone.
 pub(crate) fn rows_were(
     alloc: Global,
+    same: bool,
     was: &Outcome,
     next: &Outcome,
     memos: Vec<PageMemo>,
@@ -175,7 +185,7 @@ pub(crate) fn rows_were(
     ensures serve { IfOk result (λ q. ServeRows (table_in was.now) (table_in next.now) (map kept memos.items) (map kept q.items)) }
     ensures among { IfOk result (λ q. AreAmong (table_in was.now) (places_from (table_in next.now) 0 (length (table_in next.now).rows)) (map kept q.items)) }
 {
-    let places = places(alloc, was, next)?;
+    let places = places(alloc, same, was, next)?;
     let fields = same_fields(was, next);
     let mut left = memos;
     let mut taken = Vec::new(alloc);

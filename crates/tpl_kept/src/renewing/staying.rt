@@ -49,8 +49,8 @@ fn reads_none(memo: &PageMemo) -> bool
     }
 }
 
-/// Whether what was kept first stays without a look at it: it read no name, and lines before it haven't changed.
-pub(crate) fn first_stays(look: Look, was: &VecDeque<PageMemo>) -> bool
+// Whether what was kept first stays without a look at it: it read no name, and lines before it haven't changed.
+fn first_stays(look: Look, was: &VecDeque<PageMemo>) -> bool
     ensures { result ≡ true → ReadsNone (first_of (map kept was.now.items)) }
 {
     if !hears_first(look) {
@@ -62,12 +62,8 @@ pub(crate) fn first_stays(look: Look, was: &VecDeque<PageMemo>) -> bool
     reads_none(memo)
 }
 
-/// Puts what was kept first behind what is kept, where it stays.
-///
-/// # Errors
-///
-/// `NoMemory` alone.
-pub(crate) fn keep_first(
+// Puts what was kept first behind what is kept, where it stays.
+fn keep_first(
     was: &mut VecDeque<PageMemo>,
     done: &mut Vec<PageMemo>,
     changes: &mut Vec<Change>,

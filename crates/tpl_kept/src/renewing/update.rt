@@ -21,7 +21,7 @@ use crate::renewing::parts::{
     Parts, Renewed, Turn, apart, behind_of, last_change, next_kept, outcome_of, put_turn, shows_of,
     taken_up, unread, waiting, whole,
 };
-use crate::renewing::staying::{first_stays, keep_first, keep_front};
+use crate::renewing::staying::keep_front;
 use sig_base::{NoMemory, NodeId};
 use sig_computed::RunNote;
 use sig_formula::RowRef;
@@ -172,56 +172,39 @@ fn hear_first_again(
     ensures counted { OnOk result (⟦<Shelf as Lent>⟧.counted shelf.new) }
     ensures compared { OnOk result (AreCompared before.now hearing.new) }
 {
-    match lines {
-        Block::Empty => Ok((Head::Nothing, true)),
-        Block::Text(_, formula, _) => {
-            let head = Box::into_inner(head);
-            let Head::Text(line) = head else {
-                unreachable!()
-            };
+    match (lines, Box::into_inner(head)) {
+        (Block::Empty, _) => Ok((Head::Nothing, true)),
+        (Block::Text(_, formula, _), Head::Text(line)) => {
             let heard = listen_again(
                 alloc, graph, shelf, before, hearing, formula, line, links, row, notes,
             )?;
             Ok((Head::Text(heard.0), heard.1))
         }
-        Block::Tag(_, _, attributes, _, _) => {
-            let head = Box::into_inner(head);
-            let Head::Tag(all) = head else { unreachable!() };
+        (Block::Tag(_, _, attributes, _, _), Head::Tag(all)) => {
             let heard = listen_all_again(
                 alloc, graph, shelf, before, hearing, attributes, all, links, row, notes,
             )?;
             Ok((Head::Tag(heard.0), heard.1))
         }
-        Block::Choice(test, _, _, _) => {
-            let head = Box::into_inner(head);
-            let Head::Choice(line) = head else {
-                unreachable!()
-            };
+        (Block::Choice(test, _, _, _), Head::Choice(line)) => {
             let heard = listen_again(
                 alloc, graph, shelf, before, hearing, test, line, links, row, notes,
             )?;
             Ok((Head::Choice(heard.0), heard.1))
         }
-        Block::Each(rows, _, _) => {
-            let head = Box::into_inner(head);
-            let Head::Each(line) = head else {
-                unreachable!()
-            };
+        (Block::Each(rows, _, _), Head::Each(line)) => {
             let heard = listen_again(
                 alloc, graph, shelf, before, hearing, rows, line, links, row, notes,
             )?;
             Ok((Head::Each(heard.0), heard.1))
         }
-        Block::Attempt(first, second, _) => {
-            let head = Box::into_inner(head);
-            let Head::Attempt(one, two) = head else {
-                unreachable!()
-            };
+        (Block::Attempt(first, second, _), Head::Attempt(one, two)) => {
             let both = attempt_again(
                 alloc, graph, shelf, before, hearing, first, second, one, two, links, row, notes,
             )?;
             Ok(both)
         }
+        _ => unreachable!(),
     }
 }
 
@@ -262,29 +245,13 @@ fn begin(
 {
     let here = lent_row(row);
     if unread(&memo) {
-        let memo = make(
-            alloc,
-            graph,
-            shelf,
-            &mut hearing.heard,
-            lines,
-            links,
-            here,
-            notes,
-        )?;
+        let heard = &mut hearing.heard;
+        let memo = make(alloc, graph, shelf, heard, lines, links, here, notes)?;
         let all = whole(alloc, memo, Change::made())?;
         return Ok(all);
     }
-    if stays(
-        alloc,
-        graph,
-        shelf,
-        before,
-        hearing,
-        &memo,
-        hears_first(look),
-        notes,
-    )? {
+    let first = hears_first(look);
+    if stays(alloc, graph, shelf, before, hearing, &memo, first, notes)? {
         let all = whole(alloc, Box::into_inner(memo), Change::stays())?;
         return Ok(all);
     }
@@ -336,18 +303,10 @@ fn renew_each(
     ensures counted { OnOk result (⟦<Shelf as Lent>⟧.counted shelf.new) }
     ensures compared { OnOk result (AreCompared before.now hearing.new) }
 {
+    let rows = keep_front(look, rows, was, done, changes)?;
     let Some((row, others)) = rows.split_first() else {
         return Ok(());
     };
-    if first_stays(look, was) {
-        keep_first(was, done, changes)?;
-        let left = keep_front(look, others, was, done, changes)?;
-        renew_each(
-            alloc, graph, shelf, before, hearing, lines, links, left, was, look, notes, done,
-            changes,
-        )?;
-        return Ok(());
-    }
     let memo = next_kept(was);
     let memo = Box::new(alloc, memo)?;
     let mut turn = begin(
@@ -355,37 +314,23 @@ fn renew_each(
     )?;
     let inner = inner_of(lines, shows_of(&turn.first));
     let within = look_inside(look, &turn);
+    let places = &turn.places;
+    let inside_was = &mut turn.inside_was;
+    let inside = &mut turn.inside;
+    let told = &mut turn.inside_changes;
     renew_each(
-        alloc,
-        graph,
-        shelf,
-        before,
-        hearing,
-        inner,
-        links,
-        &turn.places,
-        &mut turn.inside_was,
-        within,
-        notes,
-        &mut turn.inside,
-        &mut turn.inside_changes,
+        alloc, graph, shelf, before, hearing, inner, links, places, inside_was, within, notes,
+        inside, told,
     )?;
+    let rest = rest_of(lines);
     let behind = behind_of(&turn.first, row);
     let after = look_behind(look, &turn);
+    let later_was = &mut turn.later_was;
+    let later = &mut turn.later;
+    let told = &mut turn.later_changes;
     renew_each(
-        alloc,
-        graph,
-        shelf,
-        before,
-        hearing,
-        rest_of(lines),
-        links,
-        behind,
-        &mut turn.later_was,
-        after,
-        notes,
-        &mut turn.later,
-        &mut turn.later_changes,
+        alloc, graph, shelf, before, hearing, rest, links, behind, later_was, after, notes, later,
+        told,
     )?;
     put_turn(alloc, turn, done, changes)?;
     renew_each(

@@ -1,5 +1,5 @@
 use Rattle.std.proofs.Common.{◌≡◌, ◌++◌, take}
-use Rattle.tpl_kept.proofs.listening.again.put_all.Given as goal
+use Rattle.tpl_kept.proofs.listening.names.put_all.Given as goal
 
 -- the names so far
 abbrev pub invariant-loop-id : goal.invariant-loop-id

@@ -1,7 +1,7 @@
 use Rattle.std.proofs.Common.{◌++◌, ◌∙◌, ap}
 use Rattle.tpl_model.specs.KeptLines.Kept.{heard_of}
 use Rattle.tpl_kept.proofs.Listened.Sequences.{each_put}
-use Rattle.tpl_kept.proofs.listening.again.put_each.Goals as goal
+use Rattle.tpl_kept.proofs.listening.names.put_each.Goals as goal
 
 pub loop-heard-preserved : goal.loop-heard-preserved
 loop-heard-preserved c =

@@ -5,7 +5,7 @@ use Rattle.tpl_hearing.proofs.Shared.{nothing_heard, then_heard}
 use Rattle.tpl_model.specs.KeptLines.Kept.{kept}
 use Rattle.tpl_model.specs.PageUpdates.PageMemos.{failed}
 use Rattle.tpl_kept.specs.Heads.{AreRows, Opens, any_failed, behind, closed, lines_size, met_fault, places_in, unless_ended}
-use Rattle.tpl_kept.proofs.Listened.Sequences.{or_none}
+use Rattle.page_model.proofs.Shared.{or_none}
 use Rattle.tpl_kept.proofs.Made.Memos.{behind_are, behind_few, behind_smaller, grows_on, inside_are, inside_smaller, none_each, told_more, turn_made, turned, unless_are, unless_few}
 use Rattle.tpl_kept.proofs.Made.Tried.{begun, both_made, both_told, first_ready, second_ready}
 use Rattle.tpl_kept.proofs.making.builder.+put_each.Goals as goal
@@ -107,9 +107,9 @@ put_each-requires-4 g t c =
     let one = behind_few over h row in
     let few : length c.place_behind-behind.result.now < 2 ^ 64 = omega (arith, count, one) in
     let rows : AreRows c.place_behind-behind.result.now = subst AreRows (sym same) (behind_are over h row (subst AreRows first c.requires.rows).0) in
-    let smaller : lines_size (block c.rest_of.result.now) + length c.place_behind-behind.result.now < lines_size b + length c.args.rows.now =
+    let smaller : lines_size (block c.rest_of-rest.result.now) + length c.place_behind-behind.result.now < lines_size b + length c.args.rows.now =
     behind_smaller c.args.ends over b c.args.links.now row c.args.heard.now c.begin.new.heard h c.args.rows.now c.in-Some.others.now
-    (block c.rest_of.result.now) c.place_behind-behind.result.now opens first same c.rest_of.ensures in (
+    (block c.rest_of-rest.result.now) c.place_behind-behind.result.now opens first same c.rest_of-rest.ensures in (
       omega (arith, smaller),
       (few, (rows, (i.can, i.counted))),
     )
@@ -153,16 +153,16 @@ returns-clause-made g t c =
     let none = ap (map kept) o.inside in
     let inside : c.in_ok-inside.inside ≡ any_failed is = sym (i.told ∙ ap (λ z. any_failed z || c.in_ok-inside.inside) none) in
     let later : c.in_ok-later.later ≡ any_failed rs = sym (r.told ∙ ap (λ z. any_failed z || c.in_ok-later.later) (ap (map kept) o.later)) in
-    let met : c.either-met.result ≡ (met_fault turn.head || any_failed is) = c.either-met.ensures ∙ (λ j. o.failed j || inside j) in
+    let met : c.either_failed-met.result ≡ (met_fault turn.head || any_failed is) = c.either_failed-met.ensures ∙ (λ j. o.failed j || inside j) in
     let t' = turned c.args.ends b c.args.links.now row turn.head c.args.heard.now c.begin.new.heard c.put_each-3.new.heard c.put_each-4.new.heard
-    (block c.inner_of-inner.result.now) (block c.rest_of.result.now) c.shows_first.result c.is_over.result c.deref.result.now c.place_behind-behind.result.now
+    (block c.inner_of-inner.result.now) (block c.rest_of-rest.result.now) c.shows_first.result c.is_over.result c.deref.result.now c.place_behind-behind.result.now
     (map kept turn.inside.items) is (map kept turn.later.items) rs
-    opens c.shows_first.ensures c.inner_of-inner.ensures (c.deref.ensures.value ∙ o.places) c.rest_of.ensures
+    opens c.shows_first.ensures c.inner_of-inner.ensures (c.deref.ensures.value ∙ o.places) c.rest_of-rest.ensures
     (c.is_over.ensures ∙ ap (λ z. c.args.ends && z) met) c.place_behind-behind.ensures none (ap (map kept) o.later) i.made r.made in
-    let own : failed (closed turn.head is rs) ≡ c.either-own.result = t'.met ∙ sym (c.either-own.ensures ∙ (λ j. met j || later j)) in
+    let own : failed (closed turn.head is rs) ≡ c.either_failed-own.result = t'.met ∙ sym (c.either_failed-own.ensures ∙ (λ j. met j || later j)) in
     turn_made c.args.ends b c.args.links.now c.args.rows.now row c.in-Some.others.now c.unless_ended-left.result.now turn.head
     c.args.heard.now c.begin.new.heard c.put_each-3.new.heard c.put_each-4.new.heard c.put_each-5.new.heard is rs
-    (map kept c.args.done.now.items) (map kept c.put_turn.new.done.items) (map kept c.put_each-5.new.done.items) c.either-own.result t'
+    (map kept c.args.done.now.items) (map kept c.put_turn.new.done.items) (map kept c.put_each-5.new.done.items) c.either_failed-own.result t'
     c.in-Some.ensures.cases.0
     (grows_on c.args.heard.now c.put_each-2.new.heard c.begin.new.heard
     (grows_on c.args.heard.now c.put_each.new.heard c.put_each-2.new.heard p.after.grows q.after.grows) o.after.grows)
@@ -191,15 +191,15 @@ returns-clause-told g t c =
     let none = ap (map kept) o.inside in
     let inside : c.in_ok-inside.inside ≡ any_failed is = sym (i.told ∙ ap (λ z. any_failed z || c.in_ok-inside.inside) none) in
     let later : c.in_ok-later.later ≡ any_failed rs = sym (r.told ∙ ap (λ z. any_failed z || c.in_ok-later.later) (ap (map kept) o.later)) in
-    let met : c.either-met.result ≡ (met_fault turn.head || any_failed is) = c.either-met.ensures ∙ (λ j. o.failed j || inside j) in
+    let met : c.either_failed-met.result ≡ (met_fault turn.head || any_failed is) = c.either_failed-met.ensures ∙ (λ j. o.failed j || inside j) in
     let t' = turned c.args.ends b c.args.links.now row turn.head c.args.heard.now c.begin.new.heard c.put_each-3.new.heard c.put_each-4.new.heard
-    (block c.inner_of-inner.result.now) (block c.rest_of.result.now) c.shows_first.result c.is_over.result c.deref.result.now c.place_behind-behind.result.now
+    (block c.inner_of-inner.result.now) (block c.rest_of-rest.result.now) c.shows_first.result c.is_over.result c.deref.result.now c.place_behind-behind.result.now
     (map kept turn.inside.items) is (map kept turn.later.items) rs
-    opens c.shows_first.ensures c.inner_of-inner.ensures (c.deref.ensures.value ∙ o.places) c.rest_of.ensures
+    opens c.shows_first.ensures c.inner_of-inner.ensures (c.deref.ensures.value ∙ o.places) c.rest_of-rest.ensures
     (c.is_over.ensures ∙ ap (λ z. c.args.ends && z) met) c.place_behind-behind.ensures none (ap (map kept) o.later) i.made r.made in
-    let own : failed (closed turn.head is rs) ≡ c.either-own.result = t'.met ∙ sym (c.either-own.ensures ∙ (λ j. met j || later j)) in
-    told_more (map kept c.args.done.now.items) (map kept c.put_turn.new.done.items) (map kept c.put_each-5.new.done.items) (closed turn.head is rs) c.either-own.result
-    c.in_ok-last.last c.either.result c.in_ok-put_turn.ensures own l.told c.either.ensures
+    let own : failed (closed turn.head is rs) ≡ c.either_failed-own.result = t'.met ∙ sym (c.either_failed-own.ensures ∙ (λ j. met j || later j)) in
+    told_more (map kept c.args.done.now.items) (map kept c.put_turn.new.done.items) (map kept c.put_each-5.new.done.items) (closed turn.head is rs) c.either_failed-own.result
+    c.in_ok-last.last c.either_failed.result c.in_ok-put_turn.ensures own l.told c.either_failed.ensures
 
 pub returns-clause-after : goal.returns-clause-after
 returns-clause-after g t c =

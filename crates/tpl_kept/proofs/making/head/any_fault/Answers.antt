@@ -10,6 +10,6 @@ loop-heard-preserved c =
     let i = c.loop-heard.heard-index in
     let all = c.args.all.now in
     let x = c.heard-item.result in
-    c.either-failed.ensures
+    c.either_failed-failed.ensures
     ∙ ((λ j. c.loop-heard.invariant j || c.is_fault.ensures j)
     ∙ (sym (faults_more (map heard_of (take i all)) (heard_of x)) ∙ sym (ap any_fault (mapped_more heard_of all i x c.loop-heard-test.true c.heard-item.is))))

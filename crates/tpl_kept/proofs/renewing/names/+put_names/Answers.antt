@@ -1,33 +1,15 @@
-use Rattle.std.proofs.Common.{◌+◌, ◌++◌, drop, map, take, refl, ap, ◌∙◌, arith}
+use Rattle.std.proofs.Common.{◌+◌, ◌++◌, map, take, ap, ◌∙◌, arith}
 use Rattle.std.specs.Box.{box_value}
-use Rattle.std.specs.List.{flat_map}
-use Rattle.std.proofs.lemmas.List.{drop_all}
 use Rattle.tpl_model.specs.PageUpdates.PageMemos.{all_names, names}
 use Rattle.tpl_model.specs.KeptLines.Kept.{heard_of, kept}
 use Rattle.tpl_model.proofs.MemoEquations.{kept_blank, kept_branch, kept_either, kept_element, kept_line, kept_loop, kept_unread}
-use Rattle.tpl_kept.proofs.Renewals.Named.{branch_put, either_put, element_put, line_put, loop_put, nothing_put, row_past, row_put, rows_put}
-use Rattle.tpl_kept.proofs.renewing.names.+put_names.Goals.{then-left-gt0+in_ok-put_names-in-Loop, else-left-gt0}
+use Rattle.tpl_kept.proofs.Renewals.Named.{branch_put, either_put, element_put, line_put, loop_put, nothing_put, row_put, rows_put}
 use Rattle.tpl_kept.proofs.renewing.names.+put_names.Goals as goal
-
-pub loop-row-init : goal.loop-row-init
-loop-row-init t c = refl
 
 pub loop-row-preserved : goal.loop-row-preserved
 loop-row-preserved t c =
-    let items = c.deref-row-items.result.now in
-    let i = c.loop-row.row-index in
-    let all = c.put_all-in-Loop.new.out.items ++ flat_map names (take c.row_count-left.result (map kept items)) in
-    elim c.if-left-gt0.branch [
-      | then-left-gt0+in_ok-put_names-in-Loop w ↦ (
-          let less = w.left-is in
-          let some = w.if-left-gt0.true in
-          row_put kept items i c.row-item.result c.loop-row.left c.if-left-gt0.left c.loop-row.out.items c.if-left-gt0.out.items all c.loop-row-test.true
-          c.row-item.is (omega (arith, less, some)) (ap (λ z. z.items) w.out-is ∙ w.in_ok-put_names-in-Loop.ensures) c.loop-row.invariant)
-      | else-left-gt0 w ↦ (
-          let none_left = w.if-left-gt0.false in
-          (λ j. (w.out-is j).items ++ flat_map names (take (w.left-is j) (map kept (drop (i + 1) items))))
-          ∙ row_past kept items i c.loop-row.left c.loop-row.out.items all (omega (arith, none_left)) c.loop-row.invariant)
-    ]
+    row_put kept c.as_many-row-items.result.now c.loop-row.row-index c.row-item.result c.put_all-in-Loop.new.out.items c.loop-row.out.items
+    c.put_names-in-loop-row.new.out.items c.loop-row-test.true c.row-item.is c.loop-row.invariant c.in_ok-put_names-in-Loop.ensures
 
 pub returns-in-Unread : goal.returns-in-Unread
 returns-in-Unread t c = nothing_put (kept c.args.memo.now) c.args.out.now.items (ap names (ap kept c.in-Unread.is ∙ kept_unread))
@@ -71,14 +53,11 @@ returns-in_ok-put_names-in-Branch-2 t c =
 
 pub returns-in_ok-put_names-in-Loop-2 : goal.returns-in_ok-put_names-in-Loop-2
 returns-in_ok-put_names-in-Loop-2 t c =
-    let items = c.deref-row-items.result.now in
-    let front = c.put_all-in-Loop.new.out.items in
-    let all = front ++ flat_map names (take c.row_count-left.result (map kept items)) in
-    let put = rows_put kept items c.loop-row.row-index c.loop-row.left c.loop-row.out.items all
-    (drop_all c.loop-row.row-index items c.loop-row-test.false) c.loop-row.invariant in
-    loop_put (heard_of c.in-Loop.line) (map kept c.in-Loop.rows.items) c.row_count-left.result (kept (box_value c.in-Loop.rest)) (kept c.args.memo.now)
-    c.args.out.now.items front c.loop-row.out.items c.put_names-in-Loop.new.out.items
-    (ap kept c.in-Loop.is ∙ kept_loop c.in-Loop.line c.in-Loop.rows c.in-Loop.rest) c.row_count-left.ensures
+    let past = c.loop-row-test.false in
+    loop_put (heard_of c.in-Loop.line) (map kept c.in-Loop.rows.items) c.row_count-count.result (kept (box_value c.in-Loop.rest)) (kept c.args.memo.now)
+    c.args.out.now.items c.put_all-in-Loop.new.out.items c.loop-row.out.items c.put_names-in-Loop.new.out.items
+    (ap kept c.in-Loop.is ∙ kept_loop c.in-Loop.line c.in-Loop.rows c.in-Loop.rest) c.row_count-count.ensures
     (c.in_ok-put_all-in-Loop.ensures ∙ ap (λ z. c.args.out.now.items ++ z) c.deref-in-Loop.ensures.value)
-    (put ∙ ap (λ z. front ++ flat_map names (take c.row_count-left.result (map kept z))) c.deref-row-items.ensures.value)
-    (c.in_ok-put_names-in-Loop-2.ensures ∙ ap (λ z. c.loop-row.out.items ++ names (kept z)) c.deref-in-Loop-2.ensures)
+    (rows_put kept c.in-Loop.rows.items c.as_many-row-items.result.now c.row_count-count.result c.loop-row.row-index c.put_all-in-Loop.new.out.items
+    c.loop-row.out.items (c.as_many-row-items.ensures ∙ ap (take c.row_count-count.result) c.deref-in-Loop-2.ensures.value) (omega (arith, past)) c.loop-row.invariant)
+    (c.in_ok-put_names-in-Loop-2.ensures ∙ ap (λ z. c.loop-row.out.items ++ names (kept z)) c.deref-in-Loop-3.ensures)
