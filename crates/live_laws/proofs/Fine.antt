@@ -18,11 +18,7 @@ use Rattle.live_model.specs.Links.{owner_of, recipe_of}
 use Rattle.live_model.specs.Machine.{host_refusal, taken_refusal}
 use Rattle.live_model.specs.Names.{Names, Use, first_refusal, meaning_of, misuse, number_of, refusal_at}
 use Rattle.live_model.specs.Uses.{uses_of_inside, uses_of_signals, uses_of_source}
-
--- the first of two refusals is none where both are
-pub none_of : {A : Type 0} (a b : Option A) → option_or a b ≡ None → (a ≡ None) × (b ≡ None)
-none_of None b e = (refl, e)
-none_of (Some x) b e = cc
+pub use Rattle.live_model.proofs.Shared.{neither as none_of}
 
 pub none_by : {A : Type 0} (a b : Option A) → a ≡ None → b ≡ None → option_or a b ≡ None
 none_by a b p q = ap (λ c. option_or c b) p ∙ q

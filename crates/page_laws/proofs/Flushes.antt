@@ -2,6 +2,7 @@
 use Rattle.std.proofs.Common.{◌≡◌, ℕ, cond, List, [], ◌∷◌, ◌++◌, map, append-nil, append_assoc, refl, sym, ap, ◌∙◌}
 use Rattle.std.specs.List.{AllByRecursion}
 use Rattle.std.specs.Str.{bytes_eq}
+use Rattle.page_model.proofs.Shared.{same_name}
 use Rattle.signal_model.specs.Recipes.{Hosts}
 use Rattle.signal_model.specs.Signals.{Signals}
 use Rattle.effect_model.specs.Worlds.{Environment, World, settle}
@@ -12,7 +13,7 @@ use Rattle.live_entries.specs.declared.entry.Entry.{Entry}
 use Rattle.live_model.specs.Machine.{Machine, updated_page, update_of, entries_of, news_of, settling, template_reads, update_all}
 use Rattle.live_model.specs.Pages.{Page, Template, template_in}
 use Rattle.page_laws.specs.LivePages.{ops_of}
-use Rattle.page_laws.proofs.Operations.{AreApart, Differ, all_by_two, events_quiet, news_told, ops_both, same_name}
+use Rattle.page_laws.proofs.Operations.{AreApart, Differ, all_by_two, events_quiet, news_told, ops_both}
 use Rattle.page_laws.proofs.Worlds.{IsGoodWorld, rest_good}
 
 -- a page as it is carried on to what its template shows
@@ -25,7 +26,7 @@ abbrev pub next_ops : Hosts → Signals → List Template → Page → List Op
 next_ops hosts w ts p = edits_between p.content (next_page hosts w ts p).content
 
 -- the machine behind the first of these pages
-abbrev after_first : Environment → Machine → Page → Machine
+abbrev pub after_first : Environment → Machine → Page → Machine
 after_first env m p = record ((settling env m (template_reads env m p.template)).machine) { pages = m.pages ++ updated_page env m p ∷ [] }
 
 pub pages_are : (env : Environment) (ps : List Page) (m : Machine) →

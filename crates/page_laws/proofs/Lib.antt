@@ -8,3 +8,4 @@ mod Names
 mod Fired
 mod Steps
 mod LivePages
+pub mod Shared

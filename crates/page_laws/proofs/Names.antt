@@ -1,9 +1,9 @@
 -- Names that were made, templates among others, and what isn't refused.
 use Rattle.std.proofs.Common.{◌≡◌, ℕ, zero, suc, Bool, true, false, cond, List, [], ◌∷◌, ◌++◌, Option, Some, None, refl, sym, ap, subst, ◌∙◌}
 use Rattle.std.specs.List.{AllByRecursion}
-use Rattle.std.specs.Option.{option_or}
 use Rattle.std.specs.Str.{bytes_eq}
 use Rattle.std.proofs.lemmas.Slice.Eq.{bytes_eq-Decides}
+use Rattle.page_model.proofs.Shared.{same_name}
 use Rattle.page_model.specs.Pages.{NumberedPage, bare, renumbered}
 use Rattle.tpl_model.specs.Laws.{IsMade, IsTemplate, begun, carried_on}
 use Rattle.tpl_model.specs.Shapes.{shape_of}
@@ -12,14 +12,9 @@ use Rattle.live_model.specs.declared.names.Meaning.{Meaning}
 use Rattle.live_model.specs.declared.names.Need.TheVariants as need
 use Rattle.live_model.specs.Names.{Names, meaning_of, refusal_at}
 use Rattle.live_model.specs.Pages.{Page, Template, template_in}
-use Rattle.page_laws.proofs.Operations.{Differ, same_name}
+use Rattle.page_laws.proofs.Operations.{Differ}
 
 -- ---- refusals
-
--- neither is refused where the first of them is none
-pub neither : {A : Type 0} (a b : Option A) → option_or a b ≡ None → (a ≡ None) × (b ≡ None)
-neither None b h = (refl, h)
-neither (Some x) b h = cc
 
 -- a name that can be given was not made
 pub name_free : (w : World) (n : List ℕ) (o : Option Meaning) → refusal_at w (n, need.New) o ≡ None → o ≡ None

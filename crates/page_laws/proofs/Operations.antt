@@ -3,7 +3,6 @@ use Rattle.std.proofs.Common.{◌≡◌, ℕ, Bool, true, false, cond, List, [],
 use Rattle.std.specs.List.{AllByRecursion, filter}
 use Rattle.std.specs.Str.{bytes_eq}
 use Rattle.std.proofs.lemmas.List.Concat.{flat_map-append}
-use Rattle.std.proofs.lemmas.Slice.Eq.{bytes_eq-Decides}
 use Rattle.signal_laws.proofs.Shared.{all_append, all_snoc}
 use Rattle.effect_model.specs.Owners.{Thing, the_signal, the_owner, the_effect, the_page, the_watcher}
 use Rattle.effect_model.specs.Worlds.{Event, ran, changed_signal, notified, frozen, logged, body_ran, failed, cleaned, gone, dropped_host, refused, made_child, noted}
@@ -12,7 +11,7 @@ use Rattle.page_model.specs.Labels.{Kind, Look}
 use Rattle.page_model.specs.Pages.{NumberedPage, bare, edits_between, renumbered, tree_of}
 use Rattle.page_model.specs.Replay.{Op}
 use Rattle.page_model.specs.Texts.{AreWritable, IsSized, op_text}
-use Rattle.page_model.proofs.Shared.{edits_writable}
+use Rattle.page_model.proofs.Shared.{edits_writable, same_name}
 use Rattle.page_ops.specs.Ops.{HasText}
 use Rattle.tpl_model.specs.Laws.{GivesRows, IsMade, IsTemplate}
 use Rattle.tpl_model.specs.Lines.{Line}
@@ -145,9 +144,6 @@ news_told n p [] = either_way (bytes_eq n p.name) []
 news_told n p (o ∷ ops) = page_told n p.name (o ∷ ops) (page_html p)
 
 -- ---- names of pages
-
-pub same_name : (n : List ℕ) → bytes_eq n n ≡ true
-same_name n = (bytes_eq-Decides n n).1 refl
 
 -- neither name is the other
 abbrev pub Differ : List ℕ → List ℕ → Type 0

@@ -4,6 +4,7 @@ use Rattle.std.specs.Prelude.{nat_le, nat_lt, option_map}
 use Rattle.std.specs.List.{IsDistinct, list_any}
 use Rattle.std.proofs.lemmas.Bool.Decides.{nat_tests}
 use Rattle.std.proofs.lemmas.List.Elements.{All-from_recursion}
+use Rattle.std.proofs.lemmas.Bool.{not-false}
 use Rattle.sig_base.proofs.Marks.{AreRows-marked}
 use Rattle.sig_base.specs.Tables.{AreRows, Table}
 use Rattle.sig_base.specs.declared.limits.TheConstants.{MOST_ROWS}
@@ -30,17 +31,13 @@ allowed false false true full a b c d h = cc
 allowed false false false true a b c d h = cc
 allowed false false false false a b c d h = (refl, refl, refl)
 
-said : (b : Bool) → not b ≡ false → b ≡ true
-said true h = refl
-said false h = cc
-
 -- an edit that the rows allow makes rows of them
 edited_rows : (e : RowEdit) (t : Table) → AreRows t.fields t.rows → edit_fault e t ≡ None → AreRows (edited e t).fields (edited e t).rows
 edited_rows (edit.Insert place key values) t h free =
     let s = allowed (list_any (has_key key) t.rows) (nat_lt (length t.rows) place) (not (length values == length t.fields)) (nat_le MOST_ROWS (length t.rows))
     fault.KeyTaken fault.Place fault.Field fault.Limit free in
     let room : length t.rows < MOST_ROWS = (let f = s.2 in grind (arith, nat_tests)) in
-    inserted t.fields t.rows place (record { key = key; values = values }) h s.0 (eqb-true (length values) (length t.fields) (said (length values == length t.fields) s.1)) room
+    inserted t.fields t.rows place (record { key = key; values = values }) h s.0 (eqb-true (length values) (length t.fields) (not-false (length values == length t.fields) s.1)) room
 edited_rows (edit.Remove key) t h free =
     subst (λ (rs : List Row). AreRows t.fields rs) (marked_others key t.rows) (AreRows-marked t.fields t.rows (map (λ (r : Row). not (has_key key r)) t.rows) h)
 edited_rows (edit.Move key place) t h free = moved_rows t.fields key place t.rows h

@@ -3,6 +3,7 @@ use Rattle.std.proofs.Common.{◌≡◌, ℕ, Bool, true, false, cond, List, [],
 use Rattle.std.specs.List.{AllByRecursion, filter}
 use Rattle.std.specs.Option.{option_map_or, option_or}
 use Rattle.std.specs.Str.{bytes_eq}
+use Rattle.page_model.proofs.Shared.{same_name}
 use Rattle.sig_base.specs.Values.{scalar_value}
 use Rattle.sig_base.specs.declared.scalar.Scalar.{Scalar}
 use Rattle.sig_base.specs.declared.scalar.Scalar.TheVariants as scalar
@@ -62,13 +63,13 @@ use Rattle.live_model.specs.Pages.{Page, Template, page_html, scratch_html, temp
 use Rattle.live_model.specs.Scripts.{IsReadable, IsReadItem}
 use Rattle.live_model.specs.Rows.{edited, no_rows, rows_at}
 use Rattle.live_model.specs.Uses.{uses_of, uses_of_inside}
-use Rattle.live_model.proofs.Shared.{new_rows}
+use Rattle.live_model.proofs.Shared.{new_rows, neither}
 use Rattle.page_laws.specs.LivePages.{Lead, ops_of, tree_named}
 use Rattle.page_laws.proofs.Fired.{Stays, fired_stays}
 use Rattle.page_laws.proofs.Flushes.{all_carried, apart_carried, batch_stays, names_stay, next_ops, next_page, ops_are, pages_are, templates_stay, told_among, told_each, world_stays}
 use Rattle.page_laws.proofs.Operations.{AreApart, AreQuiet, Differ, OneReading, all_by_two, all_filtered, apart_behind, apart_filtered, events_quiet, named_trees}
-use Rattle.page_laws.proofs.Operations.{ops_both, page_led, page_told, quiet_both, same_name, sized_ops, still_led, unnamed_tree}
-use Rattle.page_laws.proofs.Names.{IsNamed, IsPageOf, all_differ, all_made, all_named, last_named, name_free, neither, template_good}
+use Rattle.page_laws.proofs.Operations.{ops_both, page_led, page_told, quiet_both, sized_ops, still_led, unnamed_tree}
+use Rattle.page_laws.proofs.Names.{IsNamed, IsPageOf, all_differ, all_made, all_named, last_named, name_free, template_good}
 use Rattle.page_laws.proofs.Owned.{listed_good, made_good}
 use Rattle.page_laws.proofs.Rows.{list_edited}
 use Rattle.page_laws.proofs.Values.{signals_give}
