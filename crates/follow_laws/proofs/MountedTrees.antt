@@ -5,6 +5,7 @@ use Rattle.std.proofs.lemmas.Slice.Eq.{bytes_eq-Decides}
 use Rattle.page_model.specs.Forest.{Forest}
 use Rattle.page_model.specs.Labels.{Kind}
 use Rattle.page_model.specs.Pages.{bare, tree_of}
+pub use Rattle.page_model.proofs.Shared.{same_name as same}
 use Rattle.wire_model.specs.Following.{Mounted, tree_at, with_tree, without_name}
 use Rattle.wire_model.specs.Wired.{is_listed, unlisted}
 
@@ -13,9 +14,6 @@ use Rattle.wire_model.specs.Wired.{is_listed, unlisted}
 -- what holds doesn't fail
 pub clash : true ≡ false → ⊥
 clash c = cc
-
-pub same : (n : List ℕ) → bytes_eq n n ≡ true
-same n = (bytes_eq-Decides n n).1 refl
 
 -- equal names
 pub equal : (m n : List ℕ) → bytes_eq m n ≡ true → m ≡ n

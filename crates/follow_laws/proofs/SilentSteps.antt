@@ -5,6 +5,8 @@ use Rattle.std.specs.Prelude.{slice_get}
 use Rattle.std.specs.List.{AllByRecursion, filter}
 use Rattle.std.specs.Option.{option_map_or}
 use Rattle.std.proofs.lemmas.Bool.{eq-eqb}
+use Rattle.page_laws.proofs.Shared.{after_first, name_free, next_page, pages_are}
+use Rattle.live_model.proofs.Shared.{neither}
 use Rattle.sig_base.specs.Values.{scalar_value}
 use Rattle.sig_base.specs.declared.value.Value.TheVariants as value
 use Rattle.signal_model.specs.Recipes.{Hosts}
@@ -68,7 +70,7 @@ use Rattle.effect_model.specs.Worlds.{Refused}
 use Rattle.effect_model.specs.Acts.{are_alike, or_refused, rewire_standing, rewiring_refused, set_standing, with_drop, with_new_value, with_quiet_value}
 use Rattle.follow_laws.proofs.ToldEnds.{IsOff, Off, abort_off, dispose_off, flush_off, notified_off, one_off, quiet_off, rewire_off, set_off, settle_off}
 use Rattle.follow_laws.proofs.SpokenSteps.{Idles, TiedTo, all_idle, end_idles, fire_idles, fired_idles, heard_idles, one_idles, run_idles}
-use Rattle.follow_laws.proofs.SpokenSteps.{after_first, empty_tied, first_fine, item_step, name_free, neither, next, pages_are, living_stay, no_page, same_names}
+use Rattle.follow_laws.proofs.SpokenSteps.{empty_tied, first_fine, item_step, living_stay, no_page, same_names}
 
 -- ---- a machine behind a step
 
@@ -216,7 +218,7 @@ updates_still : (env : Environment) (ps : List Page) (m : Machine) → m.world.t
 updates_still env [] m e = e
 updates_still env (p ∷ ps) m e = updates_still env ps (after_first env m p) refl
 
-living_carried : (hosts : Hosts) (w : Signals) (ts : List Template) (living : List ℕ) (ps : List Page) → AreLiving living ps → AreLiving living (map (next hosts w ts) ps)
+living_carried : (hosts : Hosts) (w : Signals) (ts : List Template) (living : List ℕ) (ps : List Page) → AreLiving living ps → AreLiving living (map (next_page hosts w ts) ps)
 living_carried hosts w ts living [] h = tt
 living_carried hosts w ts living (p ∷ ps) h = (h.0, living_carried hosts w ts living ps h.1)
 
@@ -235,7 +237,7 @@ turns_hush env m w false t q off =
     let x : Machine = (acted_on_pages m w).machine in
     let before : Machine = record x { pages = [] } in
     let end : Machine = (update_all env x.pages before).machine in
-    let f : Page → Page = next env.hosts w.signals m.templates in
+    let f : Page → Page = next_page env.hosts w.signals m.templates in
     let pages : end.pages ≡ map f x.pages = pages_are env x.pages before in
     let same : (n : List ℕ) → has_page end.pages n ≡ has_page x.pages n = λ n.
     ap (λ (ps : List Page). has_page ps n) pages ∙ same_names f (λ p. refl) x.pages n in

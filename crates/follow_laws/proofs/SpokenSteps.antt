@@ -5,6 +5,9 @@ use Rattle.std.specs.Prelude.{slice_get, unwrap_or}
 use Rattle.std.specs.List.{AllByRecursion}
 use Rattle.std.specs.Option.{option_map, option_map_or, option_or}
 use Rattle.std.specs.Str.{bytes_eq}
+use Rattle.page_laws.proofs.Shared.{after_first, name_free, names_stay, next_page, pages_are}
+use Rattle.live_model.proofs.Shared.{neither}
+use Rattle.page_model.proofs.Shared.{other_way}
 use Rattle.sig_base.specs.Values.{scalar_value}
 use Rattle.sig_base.specs.declared.value.Value.{Value}
 use Rattle.sig_base.specs.declared.value.Value.TheVariants as value
@@ -20,9 +23,8 @@ use Rattle.effect_model.specs.Commands.{armed, changed_watcher, with_new_compute
 use Rattle.effect_model.specs.Batches.{Batch, abort, commit, joined_by, set_quietly}
 use Rattle.effect_model.specs.Runs.{flush}
 use Rattle.page_model.specs.Html.{html_of}
-use Rattle.page_model.specs.Pages.{bare, renumbered, tree_of}
+use Rattle.page_model.specs.Pages.{bare, tree_of}
 use Rattle.page_model.specs.Replay.{Op}
-use Rattle.tpl_model.specs.Sources.{template_shape}
 use Rattle.live_cmd.specs.declared.command.Bare.{Bare}
 use Rattle.live_cmd.specs.declared.command.Bare.TheVariants as bares
 use Rattle.why_model.specs.declared.causes.Link.{Link}
@@ -52,7 +54,7 @@ use Rattle.live_model.specs.Machine.{refusal_of, scratching, settling, shown_of,
 use Rattle.live_model.specs.Machine.{acting, acting_once, ending, firing, running}
 use Rattle.live_model.specs.Machine.{aborting, committing, done_alone, setting_by, update_all}
 use Rattle.live_model.specs.Names.{Names, first_refusal, meaning_of, number_of, refusal_at, thing_named}
-use Rattle.live_model.specs.Pages.{Page, Template, page_html, scratch_html, template_in}
+use Rattle.live_model.specs.Pages.{Page, Template, page_html, scratch_html}
 use Rattle.live_model.specs.Rows.{edited, rows_at}
 use Rattle.live_model.specs.Uses.{uses_of, uses_of_inside}
 use Rattle.page_laws.specs.LivePages.{ops_of, tree_named}
@@ -215,13 +217,6 @@ still_none (q ∷ ps) p n h d = go (bytes_eq n q.name) h (still_none ps p n)
     go true k rest = cc
     go false k rest = rest k d
 
-turned : (m n : List ℕ) → bytes_eq m n ≡ false → bytes_eq n m ≡ false
-turned m n h = go (bytes_eq n m) refl
-  where
-    go : (b : Bool) → bytes_eq n m ≡ b → bytes_eq n m ≡ false
-    go true e = absurd (clash (sym (same m) ∙ (ap (bytes_eq m) (sym (equal n m e)) ∙ h)))
-    go false e = e
-
 apart_last : (ps : List Page) (p : Page) → AreApart ps → has_page ps p.name ≡ false → AreApart (ps ++ p ∷ [])
 apart_last [] p h d = (refl, tt)
 apart_last (q ∷ ps) p h d = go (bytes_eq p.name q.name) refl d (apart_last ps p h.1)
@@ -229,7 +224,7 @@ apart_last (q ∷ ps) p h d = go (bytes_eq p.name q.name) refl d (apart_last ps 
     go : (b : Bool) → bytes_eq p.name q.name ≡ b → cond b true (has_page ps p.name) ≡ false → (has_page ps p.name ≡ false → AreApart (ps ++ p ∷ [])) →
         AreApart (q ∷ (ps ++ p ∷ []))
     go true e k rest = absurd (clash k)
-    go false e k rest = (still_none ps p q.name h.0 (turned p.name q.name e), rest k)
+    go false e k rest = (still_none ps p q.name h.0 (other_way p.name q.name e), rest k)
 
 -- numbers and pages, each one more
 whole_last : (numbers : List ℕ) (ps : List Page) (p : Page) → AreWhole numbers ps → AreWhole (numbers ++ p.number ∷ []) (ps ++ p ∷ [])
@@ -315,25 +310,6 @@ mount_step env m n t inside h free =
 
 -- ---- a flush
 
--- a page as it is carried on to what its template shows
-abbrev pub next : Hosts → Signals → List Template → Page → Page
-next hosts w ts p = let t = template_in ts p.template in record p { content = renumbered p.content (template_shape hosts w t.lines t.links) }
-
--- the machine behind the first of these pages
-abbrev pub after_first : Environment → Machine → Page → Machine
-after_first env m p = record ((settling env m (template_reads env m p.template)).machine) { pages = m.pages ++ updated_page env m p ∷ [] }
-
-pub pages_are : (env : Environment) (ps : List Page) (m : Machine) →
-    (update_all env ps m).machine.pages ≡ m.pages ++ map (next env.hosts m.world.signals m.templates) ps
-pages_are env [] m = sym (append-nil m.pages)
-pages_are env (p ∷ ps) m =
-    pages_are env ps (after_first env m p)
-    ∙ append_assoc m.pages (updated_page env m p ∷ []) (map (next env.hosts m.world.signals m.templates) ps)
-
-pub names_stay : (env : Environment) (ps : List Page) (m : Machine) → (update_all env ps m).machine.names ≡ m.names
-names_stay env [] m = refl
-names_stay env (p ∷ ps) m = names_stay env ps (after_first env m p)
-
 pub made_stays : (env : Environment) (ps : List Page) (m : Machine) → (update_all env ps m).machine.world.made.pages ≡ m.world.made.pages
 made_stays env [] m = refl
 made_stays env (p ∷ ps) m = made_stays env ps (after_first env m p)
@@ -365,14 +341,14 @@ same_numbers f e (p ∷ ps) i =
     go false h = h
 
 carried_numbered : (names : Names) (hosts : Hosts) (w : Signals) (ts : List Template) (ps : List Page) → AllByRecursion (IsNumbered names) ps →
-    AllByRecursion (IsNumbered names) (map (next hosts w ts) ps)
+    AllByRecursion (IsNumbered names) (map (next_page hosts w ts) ps)
 carried_numbered names hosts w ts [] h = tt
 carried_numbered names hosts w ts (p ∷ ps) h = (h.0, carried_numbered names hosts w ts ps h.1)
 
-carried_apart : (hosts : Hosts) (w : Signals) (ts : List Template) (ps : List Page) → AreApart ps → AreApart (map (next hosts w ts) ps)
+carried_apart : (hosts : Hosts) (w : Signals) (ts : List Template) (ps : List Page) → AreApart ps → AreApart (map (next_page hosts w ts) ps)
 carried_apart hosts w ts [] h = tt
 carried_apart hosts w ts (p ∷ ps) h =
-    (same_names (next hosts w ts) (λ q. refl) ps p.name ∙ h.0, carried_apart hosts w ts ps h.1)
+    (same_names (next_page hosts w ts) (λ q. refl) ps p.name ∙ h.0, carried_apart hosts w ts ps h.1)
 
 -- of each of these pages it is found what it comes to
 abbrev AreFound : (Page → Page) → List Page → List Page → Type 0
@@ -386,7 +362,7 @@ found_behind f q ends (p ∷ ps) d h = go (bytes_eq (f q).name p.name) refl d (f
         (has_page ps (f q).name ≡ false → AreFound f ends ps → AreFound f (f q ∷ ends) ps) → AreFound f (f q ∷ ends) (p ∷ ps)
     go true e k rest = absurd (clash k)
     go false e k rest =
-        let d : bytes_eq p.name (f q).name ≡ false = turned (f q).name p.name e in (
+        let d : bytes_eq p.name (f q).name ≡ false = other_way (f q).name p.name e in (
           (
             ap (λ b. cond b true (has_page ends p.name)) d ∙ h.0.0,
             ap (λ b. cond b (tree_of (f q).content) (tree_named ends p.name)) d ∙ h.0.1,
@@ -394,14 +370,14 @@ found_behind f q ends (p ∷ ps) d h = go (bytes_eq (f q).name p.name) refl d (f
           rest k h.1,
         )
 
-all_found : (hosts : Hosts) (w : Signals) (ts : List Template) (ps : List Page) → AreApart ps → AreFound (next hosts w ts) (map (next hosts w ts) ps) ps
+all_found : (hosts : Hosts) (w : Signals) (ts : List Template) (ps : List Page) → AreApart ps → AreFound (next_page hosts w ts) (map (next_page hosts w ts) ps) ps
 all_found hosts w ts [] h = tt
 all_found hosts w ts (p ∷ ps) h = (
   (
-    ap (λ b. cond b true (has_page (map (next hosts w ts) ps) p.name)) (same p.name),
-    ap (λ b. cond b (tree_of (next hosts w ts p).content) (tree_named (map (next hosts w ts) ps) p.name)) (same p.name),
+    ap (λ b. cond b true (has_page (map (next_page hosts w ts) ps) p.name)) (same p.name),
+    ap (λ b. cond b (tree_of (next_page hosts w ts p).content) (tree_named (map (next_page hosts w ts) ps) p.name)) (same p.name),
   ),
-  found_behind (next hosts w ts) p (map (next hosts w ts) ps) ps h.0 (all_found hosts w ts ps h.1),
+  found_behind (next_page hosts w ts) p (map (next_page hosts w ts) ps) ps h.0 (all_found hosts w ts ps h.1),
 )
 
 -- of a page that isn't among these nothing is told
@@ -420,7 +396,7 @@ others_quiet env n (p ∷ ps) m h = go (bytes_eq n p.name) refl h (others_quiet 
         ∙ (events_quiet n m.labels w.told (news ++ later)
         ∙ (news_quiet n (updated_page env m p) (update_of env m p.template p.content).ops later e ∙ rest k))
 
-updates_spoken : (env : Environment) (ends ps : List Page) (m : Machine) → AreApart ps → AreFound (next env.hosts m.world.signals m.templates) ends ps →
+updates_spoken : (env : Environment) (ends ps : List Page) (m : Machine) → AreApart ps → AreFound (next_page env.hosts m.world.signals m.templates) ends ps →
     AreSpoken ends (update_all env ps m).entries
 updates_spoken env ends [] m a f = tt
 updates_spoken env ends (p ∷ ps) m a f =
@@ -445,7 +421,7 @@ turns_step env m w false h k =
     let x : Machine = (acted_on_pages m w).machine in
     let before : Machine = record x { pages = [] } in
     let end : Machine = (update_all env x.pages before).machine in
-    let f : Page → Page = next env.hosts w.signals m.templates in
+    let f : Page → Page = next_page env.hosts w.signals m.templates in
     let tied : TiedTo x = ended_tied m w k h in
     let pages : end.pages ≡ map f x.pages = pages_are env x.pages before in
     let carried : IsTied x.names x.labels.pages x.world.made.pages x.world.pages (map f x.pages) = record {
@@ -470,14 +446,6 @@ turns_step env m w false h k =
     }
 
 -- ---- commands
-
-pub neither : {A : Type 0} (a b : Option A) → option_or a b ≡ None → (a ≡ None) × (b ≡ None)
-neither None b h = (refl, h)
-neither (Some x) b h = cc
-
-pub name_free : (w : World) (n : List ℕ) (o : Option Meaning) → refusal_at w (n, need.New) o ≡ None → o ≡ None
-name_free w n None h = refl
-name_free w n (Some m) h = cc
 
 -- a name that a page's is stands for one that lives
 pub page_used : (w : World) (n : List ℕ) (o : Option Meaning) → refusal_at w (n, need.Of kind.Page) o ≡ None →
