@@ -115,7 +115,8 @@ plain_filtered ns (p ∷ ps) = at (is_in p.number ns) (plain_filtered ns ps)
 
 -- ---- one is made
 
-all_more : {A : Type 0} (P : A → Type 0) (xs : List A) (y : A) → AllByRecursion P xs → P y → AllByRecursion P (xs ++ y ∷ [])
+-- and one more of which it holds
+pub all_more : {A : Type 0} (P : A → Type 0) (xs : List A) (y : A) → AllByRecursion P xs → P y → AllByRecursion P (xs ++ y ∷ [])
 all_more P [] y all p = (p, tt)
 all_more P (x ∷ xs) y all p = (all.0, all_more P xs y all.1 p)
 

@@ -1,4 +1,5 @@
 mod Pages
+mod Settling
 mod Apart
 mod Drops
 pub mod Shared

@@ -2,8 +2,7 @@
 use Rattle.std.proofs.Common.{◌≡◌, ◌≤◌, ◌<◌, ◌+◌, ◌-◌, ◌*◌, ◌^◌, ℕ, zero, suc, arith, List, [], ◌∷◌, ◌++◌, length, take, drop, map, get_or, Option, Some, None, refl, sym, ap, subst, ◌∙◌, append_assoc}
 use Rattle.std.specs.Option.{option_map}
 use Rattle.std.specs.Prelude.{slice_set}
-use Rattle.std.specs.List.{AllByRecursion}
-use Rattle.std.proofs.lemmas.List.{append-nil, drop_more, length-append, length-drop}
+use Rattle.std.proofs.lemmas.List.{append-nil, drop_more, length-append, length-drop, map-append}
 use Rattle.std.proofs.Math.Seq.{take-append_seam}
 use Rattle.signal_model.specs.Recipes.{Hosts}
 use Rattle.effect_model.specs.Worlds as told
@@ -17,7 +16,7 @@ use Rattle.page_model.specs.Replay.{Op}
 use Rattle.tpl_live.specs.Pages.{IsStanding}
 use Rattle.tpl_live.specs.Contents.{standing}
 use Rattle.tpl_model.specs.Sources.{template_shape}
-use Rattle.sig_host.specs.Hosts.{HostPlace, most_asked}
+use Rattle.sig_host.specs.Hosts.{HostPlace}
 use Rattle.sig_computed.specs.Notes.{note_of}
 use Rattle.sig_computed.specs.declared.notes.RunNote.{RunNote}
 use Rattle.sig_effect.specs.Stores.{environment}
@@ -42,7 +41,8 @@ use Rattle.live_labels.proofs.Shared.{all_noted, all_rename, all_told, noted_by,
 use Rattle.live_pages.specs.declared.mounted.Mounted.{Mounted}
 use Rattle.live_pages.specs.Views.{page_of}
 use Rattle.live_pages.specs.Updates.{after_reading, bare, told_reading, updated_to, numbers_of, with_pages, AreUpdated, AreShown, AreStanding, IsUpdated, IsFresh, IsFreshTree, IsMounted}
-use Rattle.live_pages.specs.Updates.{IsScratched, IsShown, Settles}
+use Rattle.live_pages.specs.Updates.{IsScratched, IsShown, Settled}
+use Rattle.live_pages.proofs.Drops.{all_more}
 
 -- ---- one page
 
@@ -100,7 +100,6 @@ fresh_made hosts slacks asked later l t old new made edits before after first la
   noted = notes_down ∙ settled_noted hosts slacks asked later old new (asked_of hosts old.graph.state.signals t) notes first d;
   page = page;
   ops = ops;
-  sound = d.sound;
 }
 
 -- its operations and its HTML are told
@@ -123,7 +122,6 @@ mounted_made env l templates asked later old new name t x made edits before midd
       labels = f.labels;
       noted = f.noted;
       page = f.page;
-      sound = f.sound;
     }
 
 -- the tree of what a template shows was made
@@ -139,7 +137,6 @@ tree_made hosts slacks asked later l t old new made before after first last note
   labels = settled_labels hosts slacks asked later old new (asked_of hosts old.graph.state.signals t) notes l d;
   noted = notes_down ∙ settled_noted hosts slacks asked later old new (asked_of hosts old.graph.state.signals t) notes first d;
   tree = tree;
-  sound = d.sound;
 }
 
 -- its HTML is that of the template from scratch
@@ -157,7 +154,6 @@ scratched_made env l templates asked later old new t x made bytes before after f
       noted = f.noted;
       html = same ∙ ap (λ (tree : Forest Kind). html_of tree) f.tree
           ∙ page_law paged.bare (template_shape env.hosts old.graph.state.signals k.lines k.links);
-      sound = f.sound;
     }
 
 -- a page was brought up to date
@@ -190,7 +186,7 @@ abbrev pub ahead : List Entry → Told → Told
 ahead es t = reached t.machine (es ++ t.entries)
 
 -- The first so many pages are brought up to date, where what host formulas answer is this before and that now.
-pub record UpTo (before after : Hosts → Type 0) (labels : Labels) (asked later : List HostPlace) (first now : World)
+pub record UpTo (before after : Hosts → Type 0) (counted : Type 0) (labels : Labels) (asked later : List HostPlace) (first now : World)
     (all items : List Mounted) (at : ℕ) (tells : List Entry) (begun sofar : Option Journal) : Type 0 where
   pub done : List Mounted
   pub count : length done ≡ at
@@ -199,23 +195,10 @@ pub record UpTo (before after : Hosts → Type 0) (labels : Labels) (asked later
   pub shown : (templates : List Template) → AreShown templates all → AreShown templates done
   pub rest_shown : (templates : List Template) → AreShown templates all → AreShown templates (drop at all)
   pub numbers : numbers_of items ≡ numbers_of all
-  pub stays : Settles first now
-  pub agrees : Agrees later now
-  pub worn : now.graph.state.worn ≤ first.graph.state.worn + at * 2 ^ 64
-  pub most : most_asked later ≤ most_asked asked + at * 2 ^ 71
-  pub answers : (hosts : Hosts) → before hosts → after hosts
-  pub sound : (hosts : Hosts) → before hosts → IsSound hosts asked first → IsSound hosts later now
+  pub settled : Settled asked later first now before after counted (at * 2 ^ 64) (at * 2 ^ 71)
   pub whole : (hosts : Hosts) (slacks : List ℕ) (m : plain.Machine) → before hosts → IsSound hosts asked first → AreShown m.templates all →
       update_all (environment hosts slacks) (map page_of all) (with_pages m labels asked first begun [])
       ≡ ahead tells (update_all (environment hosts slacks) (map page_of (drop at all)) (with_pages m labels later now sofar done))
-
-map_append : {A B : Type 0} (f : A → B) (xs ys : List A) → map f (xs ++ ys) ≡ map f xs ++ map f ys
-map_append f [] ys = refl
-map_append f (x ∷ xs) ys = ap (λ zs. f x ∷ zs) (map_append f xs ys)
-
-all_append : {A : Type 0} (P : A → Type 0) (xs : List A) (y : A) → AllByRecursion P xs → P y → AllByRecursion P (xs ++ y ∷ [])
-all_append P [] y all p = (p, tt)
-all_append P (x ∷ xs) y all p = (all.0, all_append P xs y all.1 p)
 
 -- the element after those that are done
 at_seam : {A : Type 0} (xs ys : List A) (y d : A) (i : ℕ) → length xs ≡ i → get_or (xs ++ y ∷ ys) i d ≡ y
@@ -229,9 +212,9 @@ set_seam [] ys y z i e = rw (sym e) refl
 set_seam (x ∷ xs) ys y z zero e = absurd (omega (arith, e))
 set_seam (x ∷ xs) ys y z (suc i) e = ap (λ zs. x ∷ zs) (set_seam xs ys y z i (omega (arith, e)))
 
-pub up_to_none : (before : Hosts → Type 0) (labels : Labels) (asked : List HostPlace) (w : World) (all items : List Mounted) (tells : List Entry) (begun : Option Journal) →
-    items ≡ all → tells ≡ [] → Agrees asked w → AreStanding all → UpTo before before labels asked asked w w all items 0 tells begun begun
-up_to_none before labels asked w all items tells begun same none agrees stand = record {
+pub up_to_none : (before : Hosts → Type 0) (counted : Type 0) (labels : Labels) (asked : List HostPlace) (w : World) (all items : List Mounted) (tells : List Entry) (begun : Option Journal) →
+    items ≡ all → tells ≡ [] → Agrees asked w → counted → AreStanding all → UpTo before before counted labels asked asked w w all items 0 tells begun begun
+up_to_none before counted labels asked w all items tells begun same none agrees counts stand = record {
   done = [];
   count = refl;
   items_are = same;
@@ -239,14 +222,36 @@ up_to_none before labels asked w all items tells begun same none agrees stand = 
   shown = λ templates s. tt;
   rest_shown = λ templates s. s;
   numbers = ap numbers_of same;
-  stays = record { signals = refl; given = refl; watchers = refl; tables = refl };
-  agrees = agrees;
-  worn = omega arith;
-  most = omega arith;
-  answers = λ hosts a. a;
-  sound = λ hosts a s. s;
+  settled = record {
+    stays = record { signals = refl; given = refl; watchers = refl; tables = refl };
+    agrees = agrees;
+    sound = λ hosts a s. s;
+    answers = λ hosts a. a;
+    counted = counts;
+    worn = omega arith;
+    most = omega arith;
+  };
   whole = λ hosts slacks m a s shown.
       ap (λ (es : List Entry). ahead es (update_all (environment hosts slacks) (map page_of all) (with_pages m labels asked w begun []))) (sym none);
+}
+
+-- the names of one page more
+settled_more : (before middle after : Hosts → Type 0) (first_counted counted : Type 0) (asked later last : List HostPlace) (first now w : World) (at : ℕ) →
+    Settled asked later first now before middle first_counted (at * 2 ^ 64) (at * 2 ^ 71) → Settled later last now w middle after counted (2 ^ 64) (2 ^ 71) →
+    Settled asked last first w before after counted ((at + 1) * 2 ^ 64) ((at + 1) * 2 ^ 71)
+settled_more before middle after first_counted counted asked later last first now w at so s = record {
+  stays = record {
+    signals = s.stays.signals ∙ so.stays.signals;
+    given = s.stays.given ∙ so.stays.given;
+    watchers = s.stays.watchers ∙ so.stays.watchers;
+    tables = s.stays.tables ∙ so.stays.tables;
+  };
+  agrees = s.agrees;
+  sound = λ hosts a sound. s.sound hosts (so.answers hosts a) (so.sound hosts a sound);
+  answers = λ hosts a. s.answers hosts (so.answers hosts a);
+  counted = s.counted;
+  worn = let a = so.worn in let b = s.worn in omega (arith, a, b);
+  most = let a = so.most in let b = s.most in omega (arith, a, b);
 }
 
 -- the next page
@@ -254,10 +259,10 @@ pub record IsNextPage (all : List Mounted) (at : ℕ) (p : Mounted) : Type 0 whe
   pub is : drop at all ≡ p ∷ drop (at + 1) all
   pub stands : IsStanding (standing p.page)
 
-pub next_page : (before after : Hosts → Type 0) (labels : Labels) (asked later : List HostPlace) (first now : World) (all items : List Mounted) (at : ℕ)
-    (tells : List Entry) (begun sofar : Option Journal) (p d : Mounted) → UpTo before after labels asked later first now all items at tells begun sofar → at < length all →
+pub next_page : (before after : Hosts → Type 0) (counted : Type 0) (labels : Labels) (asked later : List HostPlace) (first now : World) (all items : List Mounted) (at : ℕ)
+    (tells : List Entry) (begun sofar : Option Journal) (p d : Mounted) → UpTo before after counted labels asked later first now all items at tells begun sofar → at < length all →
     p ≡ get_or items at d → IsNextPage all at p
-next_page before after labels asked later first now all items at tells begun sofar p d u lt is =
+next_page before after counted labels asked later first now all items at tells begun sofar p d u lt is =
     let more : drop at all ≡ get_or all at d ∷ drop (at + 1) all = drop_more all at d lt in
     let same : p ≡ get_or all at d = is ∙ ap (λ (xs : List Mounted). get_or xs at d) (u.items_are ∙ ap (λ (xs : List Mounted). u.done ++ xs) more)
     ∙ at_seam u.done (drop (at + 1) all) (get_or all at d) d at u.count in
@@ -265,18 +270,17 @@ next_page before after labels asked later first now all items at tells begun sof
     record { is = more ∙ ap (λ (x : Mounted). x ∷ drop (at + 1) all) (sym same); stands = subst (λ (x : Mounted). IsStanding (standing x.page)) (sym same) stand.0 }
 
 -- it is brought up to date too
-pub up_to_more : (before middle after : Hosts → Type 0) (labels : Labels) (asked later last : List HostPlace) (first now w : World)
+pub up_to_more : (before middle after : Hosts → Type 0) (first_counted counted : Type 0) (labels : Labels) (asked later last : List HostPlace) (first now w : World)
     (all items : List Mounted) (at : ℕ) (tells more : List Entry) (begun sofar ended : Option Journal) (p q d : Mounted) →
-    UpTo before middle labels asked later first now all items at tells begun sofar → at < length all → p ≡ get_or items at d →
+    UpTo before middle first_counted labels asked later first now all items at tells begun sofar → at < length all → p ≡ get_or items at d →
     ((hosts : Hosts) (slacks : List ℕ) (templates : List Template) → middle hosts → IsSound hosts later now → IsShown templates p →
     IsUpdated (environment hosts slacks) labels templates later last now w p q tells more sofar ended) →
     ((templates : List Template) → IsShown templates p → IsShown templates q) →
-    ((hosts : Hosts) → middle hosts → IsSound hosts later now → IsSound hosts last w) →
-    q.number ≡ p.number → Settles now w → Agrees last w → w.graph.state.worn ≤ now.graph.state.worn + 2 ^ 64 → most_asked last ≤ most_asked later + 2 ^ 71 →
-    ((hosts : Hosts) → middle hosts → after hosts) →
-    UpTo before after labels asked last first w all (slice_set items at q) (at + 1) more begun ended
-up_to_more before middle after labels asked later last first now w all items at tells more begun sofar ended p q d u lt is up shown sound number stays agrees worn most answers =
-    let next : IsNextPage all at p = next_page before middle labels asked later first now all items at tells begun sofar p d u lt is in
+    q.number ≡ p.number → Settled later last now w middle after counted (2 ^ 64) (2 ^ 71) →
+    UpTo before after counted labels asked last first w all (slice_set items at q) (at + 1) more begun ended
+up_to_more before middle after first_counted counted labels asked later last first now w all items at tells more begun sofar ended p q d u lt is up shown number s =
+    let next : IsNextPage all at p = next_page before middle first_counted labels asked later first now all items at tells begun sofar p d u lt is in
+    let so = u.settled in
     let rest : List Mounted = drop (at + 1) all in
     let stand : AreStanding (p ∷ rest) = subst AreStanding next.is u.stand in
     let here : (templates : List Template) → AreShown templates all → AreShown templates (p ∷ rest) =
@@ -288,24 +292,14 @@ up_to_more before middle after labels asked later last first now w all items at 
       items_are = ap (λ (xs : List Mounted). slice_set xs at q) all_items ∙ set_seam u.done rest p q at u.count
           ∙ sym (append_assoc u.done (q ∷ []) rest);
       stand = stand.1;
-      shown = λ templates s. all_append (IsShown templates) u.done q (u.shown templates s) (shown templates (here templates s).0);
+      shown = λ templates s. all_more (IsShown templates) u.done q (u.shown templates s) (shown templates (here templates s).0);
       rest_shown = λ templates s. (here templates s).1;
       numbers = ap numbers_of (ap (λ (xs : List Mounted). slice_set xs at q) all_items ∙ set_seam u.done rest p q at u.count)
-          ∙ map_append (λ (x : Mounted). x.number) u.done (q ∷ rest) ∙ ap (λ (k : ℕ). numbers_of u.done ++ (k ∷ numbers_of rest)) number
-          ∙ sym (map_append (λ (x : Mounted). x.number) u.done (p ∷ rest)) ∙ ap numbers_of (sym all_items) ∙ u.numbers;
-      stays = record {
-        signals = stays.signals ∙ u.stays.signals;
-        given = stays.given ∙ u.stays.given;
-        watchers = stays.watchers ∙ u.stays.watchers;
-        tables = stays.tables ∙ u.stays.tables;
-      };
-      agrees = agrees;
-      worn = let a = u.worn in omega (arith, a, worn);
-      most = let a = u.most in omega (arith, a, most);
-      answers = λ hosts a. answers hosts (u.answers hosts a);
-      sound = λ hosts a s. sound hosts (u.answers hosts a) (u.sound hosts a s);
-      whole = λ hosts slacks m a s all_shown.
-          let b = up hosts slacks m.templates (u.answers hosts a) (u.sound hosts a s) (here m.templates all_shown).0 in
+          ∙ map-append (λ (x : Mounted). x.number) u.done (q ∷ rest) ∙ ap (λ (k : ℕ). numbers_of u.done ++ (k ∷ numbers_of rest)) number
+          ∙ sym (map-append (λ (x : Mounted). x.number) u.done (p ∷ rest)) ∙ ap numbers_of (sym all_items) ∙ u.numbers;
+      settled = settled_more before middle after first_counted counted asked later last first now w at so s;
+      whole = λ hosts slacks m a sound all_shown.
+          let b = up hosts slacks m.templates (so.answers hosts a) (so.sound hosts a sound) (here m.templates all_shown).0 in
           let env = environment hosts slacks in
           let v : plain.Machine = bare labels later now m.templates in
           let t : Told = settling env v (plain.template_reads env v p.template) in
@@ -321,9 +315,9 @@ up_to_more before middle after labels asked later last first now w all items at 
             labels = sym b.labels i;
             world = sym b.world i;
             journal = sym b.noted i;
-            pages = (ap (λ (x : Page). map page_of u.done ++ x ∷ []) (sym b.page) ∙ sym (map_append page_of u.done (q ∷ []))) i;
+            pages = (ap (λ (x : Page). map page_of u.done ++ x ∷ []) (sym b.page) ∙ sym (map-append page_of u.done (q ∷ []))) i;
           }) in
-          u.whole hosts slacks m a s all_shown
+          u.whole hosts slacks m a sound all_shown
           ∙ ap (λ (xs : List Mounted). ahead tells (update_all env (map page_of xs) (with_pages m labels later now sofar u.done))) next.is
           ∙ ap (λ (x : plain.Machine). ahead tells (let y = update_all env (map page_of rest) x in reached y.machine ((t.entries ++ news) ++ y.entries))) after
           ∙ ap (λ (es : List Entry). reached r.machine es)
@@ -337,11 +331,11 @@ empty [] e = refl
 empty (x ∷ xs) e = absurd (omega (arith, e))
 
 -- all are
-pub all_up : (before after : Hosts → Type 0) (labels : Labels) (asked later : List HostPlace) (first now : World) (all items : List Mounted) (at : ℕ)
-    (tells : List Entry) (begun sofar : Option Journal) → UpTo before after labels asked later first now all items at tells begun sofar → length all ≤ at →
+pub all_up : (before after : Hosts → Type 0) (counted : Type 0) (labels : Labels) (asked later : List HostPlace) (first now : World) (all items : List Mounted) (at : ℕ)
+    (tells : List Entry) (begun sofar : Option Journal) → UpTo before after counted labels asked later first now all items at tells begun sofar → length all ≤ at →
     (hosts : Hosts) (slacks : List ℕ) (m : plain.Machine) → before hosts → IsSound hosts asked first → AreShown m.templates all →
     AreUpdated (environment hosts slacks) m labels asked later first now all items tells begun sofar
-all_up before after labels asked later first now all items at tells begun sofar u end hosts slacks m a s shown =
+all_up before after counted labels asked later first now all items at tells begun sofar u end hosts slacks m a s shown =
     let none : drop at all ≡ [] = empty (drop at all) (length-drop at all ∙ omega (arith, end)) in
     let same : u.done ≡ items = sym (u.items_are ∙ ap (λ (xs : List Mounted). u.done ++ xs) none ∙ append-nil u.done) in
     record {
@@ -352,17 +346,17 @@ all_up before after labels asked later first now all items at tells begun sofar 
     }
 
 -- and show what they should
-pub all_shown : (before after : Hosts → Type 0) (labels : Labels) (asked later : List HostPlace) (first now : World) (all items : List Mounted) (at : ℕ)
-    (tells : List Entry) (begun sofar : Option Journal) → UpTo before after labels asked later first now all items at tells begun sofar → length all ≤ at →
+pub all_shown : (before after : Hosts → Type 0) (counted : Type 0) (labels : Labels) (asked later : List HostPlace) (first now : World) (all items : List Mounted) (at : ℕ)
+    (tells : List Entry) (begun sofar : Option Journal) → UpTo before after counted labels asked later first now all items at tells begun sofar → length all ≤ at →
     (templates : List Template) → AreShown templates all → AreShown templates items
-all_shown before after labels asked later first now all items at tells begun sofar u end templates shown =
+all_shown before after counted labels asked later first now all items at tells begun sofar u end templates shown =
     let none : drop at all ≡ [] = empty (drop at all) (length-drop at all ∙ omega (arith, end)) in
     subst (AreShown templates) (sym (u.items_are ∙ ap (λ (xs : List Mounted). u.done ++ xs) none ∙ append-nil u.done)) (u.shown templates shown)
 
 -- as many pages as before
-pub same_count : (before after : Hosts → Type 0) (labels : Labels) (asked later : List HostPlace) (first now : World) (all items : List Mounted) (at : ℕ)
-    (tells : List Entry) (begun sofar : Option Journal) → UpTo before after labels asked later first now all items at tells begun sofar → at ≤ length all → length items ≡ length all
-same_count before after labels asked later first now all items at tells begun sofar u le =
+pub same_count : (before after : Hosts → Type 0) (counted : Type 0) (labels : Labels) (asked later : List HostPlace) (first now : World) (all items : List Mounted) (at : ℕ)
+    (tells : List Entry) (begun sofar : Option Journal) → UpTo before after counted labels asked later first now all items at tells begun sofar → at ≤ length all → length items ≡ length all
+same_count before after counted labels asked later first now all items at tells begun sofar u le =
     let a : length items ≡ length u.done + length (drop at all) = ap length u.items_are ∙ length-append u.done (drop at all) in
     let b : length (drop at all) ≡ length all - at = length-drop at all in
     let d = u.count in

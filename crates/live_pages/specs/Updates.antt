@@ -1,7 +1,8 @@
 -- What making a page and bringing it up to date leave and tell.
-use Rattle.std.specs.Prelude.{◌≡◌, ◌<◌, ◌≤◌, true, ℕ, List, [], ◌∷◌, ◌++◌, length, map, Option, None}
+use Rattle.std.specs.Prelude.{◌≡◌, ◌<◌, ◌≤◌, ◌+◌, true, ℕ, List, [], ◌∷◌, ◌++◌, length, map, Option, None}
 use Rattle.std.specs.List.{AllByRecursion}
 use Rattle.sig_base.specs.declared.limits.TheConstants.{MOST_PAGES}
+use Rattle.signal_model.specs.Recipes.{Hosts}
 use Rattle.signal_model.specs.Signals.{is_in}
 use Rattle.page_model.specs.Pages as paged
 use Rattle.page_model.specs.Forest.{Forest}
@@ -16,9 +17,9 @@ use Rattle.tpl_model.specs.Laws.{IsTemplate}
 use Rattle.tpl_model.specs.Updates.{Updated, updated}
 use Rattle.effect_tables.specs.Consistency.{AreApart}
 use Rattle.effect_model.specs.Worlds.{Environment, Event, settle}
-use Rattle.sig_host.specs.Hosts.{HostPlace}
+use Rattle.sig_host.specs.Hosts.{HostPlace, most_asked}
 use Rattle.effect_world.specs.declared.world.World.{World}
-use Rattle.effect_world.specs.Stores.{IsSound}
+use Rattle.effect_world.specs.Stores.{Agrees, IsSound}
 use Rattle.effect_world.specs.Wholes.{whole_of}
 use Rattle.live_entries.specs.declared.entry.Entry.{Entry}
 use Rattle.live_entries.specs.declared.entry.Entry.TheVariants as entry
@@ -75,6 +76,24 @@ pub record Settles (old new : World) : Type 0 where
   pub watchers : new.watchers ≡ old.watchers
   pub tables : new.tables ≡ old.tables
 
+-- Names may be settled, by a shelf that counts its asks: the stores belong together, and no counter has come so far.
+pub record CanSettle (asked : List HostPlace) (w : World) (counts : Type 0) (far : ℕ) : Type 0 where
+  pub agrees : Agrees asked w
+  pub counted : counts
+  pub worn : w.graph.state.worn < far
+  pub room : most_asked asked < far
+
+-- Names were settled, by a shelf that counts its asks: what else is in the world stays, the stores belong together, what was sound is, the shelf
+-- answers as before, and no counter rose by more than so many runs and asks.
+pub record Settled (asked later : List HostPlace) (old new : World) (before after : Hosts → Type 0) (counts : Type 0) (runs asks : ℕ) : Type 0 where
+  pub stays : Settles old new
+  pub agrees : Agrees later new
+  pub sound : (hosts : Hosts) → before hosts → IsSound hosts asked old → IsSound hosts later new
+  pub answers : (hosts : Hosts) → before hosts → after hosts
+  pub counted : counts
+  pub worn : new.graph.state.worn ≤ old.graph.state.worn + runs
+  pub most : most_asked later ≤ most_asked asked + asks
+
 -- what the names that a template reads come to where they are settled
 abbrev pub after_reading : Environment → called.Labels → List HostPlace → World → Template → plain.Told
 after_reading env ls asked w t = settling env (bare ls asked w []) (asked_of env.hosts (whole_of asked w).signals t)
@@ -96,7 +115,6 @@ pub record IsFresh (env : Environment) (ls : called.Labels) (t : Template) (aske
   pub noted : last ≡ noting (told_reading env asked old t) first
   pub page : made ≡ (updated_to env asked old t paged.bare).page
   pub ops : edits ≡ (updated_to env asked old t paged.bare).ops
-  pub sound : IsSound env.hosts later new
 
 -- What a template reads was settled, told and noted, and this is the tree of what it shows from scratch: that of a page which is made of it.
 pub record IsFreshTree (env : Environment) (ls : called.Labels) (t : Template) (asked later : List HostPlace) (old new : World)
@@ -106,7 +124,6 @@ pub record IsFreshTree (env : Environment) (ls : called.Labels) (t : Template) (
   pub labels : ls ≡ (after_reading env ls asked old t).machine.labels
   pub noted : last ≡ noting (told_reading env asked old t) first
   pub tree : made ≡ tree_of (updated_to env asked old t paged.bare).page
-  pub sound : IsSound env.hosts later new
 
 -- A page was made, on the signals of a machine: what it reads is settled, told and noted, then the operations that lead to it, and then the page.
 pub record IsMounted (env : Environment) (ls : called.Labels) (templates : List Template) (asked later : List HostPlace)
@@ -120,7 +137,6 @@ pub record IsMounted (env : Environment) (ls : called.Labels) (templates : List 
   pub labels : ls ≡ (settling env (bare ls asked old templates) (template_reads env (bare ls asked old templates) template)).machine.labels
   pub noted : last ≡ noting (told_reading env asked old (template_in templates template)) first
   pub page : made ≡ (update_of env (bare ls asked old templates) template paged.bare).page
-  pub sound : IsSound env.hosts later new
 
 -- What a template reads was settled, told and noted, and this is the HTML of what it shows from scratch.
 pub record IsScratched (env : Environment) (ls : called.Labels) (templates : List Template) (asked later : List HostPlace)
@@ -131,7 +147,6 @@ pub record IsScratched (env : Environment) (ls : called.Labels) (templates : Lis
   pub labels : ls ≡ (settling env (bare ls asked old templates) (template_reads env (bare ls asked old templates) template)).machine.labels
   pub noted : last ≡ noting (told_reading env asked old (template_in templates template)) first
   pub html : bytes ≡ scratch_html env.hosts (whole_of asked old).signals (template_in templates template)
-  pub sound : IsSound env.hosts later new
 
 -- A page was brought up to date: what it reads is settled, told and noted, and then its news.
 pub record IsUpdated (env : Environment) (ls : called.Labels) (templates : List Template) (asked later : List HostPlace)

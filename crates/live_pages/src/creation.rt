@@ -1,17 +1,16 @@
 // Pages are made of templates: mounted, or shown from scratch.
-ghost use Rattle.std.specs.Prelude.{◌≡◌, ◌+◌, ◌≤◌, ◌<◌, ◌^◌, ℕ, List, IfOk, OnOk, length, map};
+ghost use Rattle.std.specs.Prelude.{◌≡◌, ◌<◌, ◌^◌, ℕ, List, IfOk, OnOk, length, map};
 ghost use Rattle.signal_model.specs.Recipes.{Hosts};
-ghost use Rattle.sig_host.specs.Hosts.{most_asked};
 ghost use Rattle.page_ops.specs.Ops.{op_of};
 ghost use Rattle.sig_effect.specs.Stores.{environment};
-ghost use Rattle.effect_world.specs.Stores.{Agrees, IsSound};
+ghost use Rattle.effect_world.specs.Stores.{IsSound};
 ghost use Rattle.tpl_blocks.specs.Blocks.{lines_of};
 ghost use Rattle.tpl_live.specs.Pages.{page_in, IsStanding, Stands};
 ghost use Rattle.tpl_live.specs.Contents.{standing};
 ghost use Rattle.tpl_model.specs.Laws.{IsTemplate};
 ghost use Rattle.live_labels.specs.Views.{labels_of};
 ghost use Rattle.live_model.specs.Pages.{template_in};
-ghost use Rattle.live_pages.specs.Updates.{AreTemplates, IsFresh, IsFreshTree, IsMounted, IsScratched, Settles};
+ghost use Rattle.live_pages.specs.Updates.{AreTemplates, CanSettle, IsFresh, IsFreshTree, IsMounted, IsScratched, Settled};
 ghost use Rattle.live_pages.specs.Views.{template_of};
 
 use crate::lookup::template_among;
@@ -37,9 +36,7 @@ fn copied(alloc: Global, signals: &[NodeId]) -> Result<Vec<NodeId>, NoMemory>
     Ok(copy)
 }
 
-// A page of a template that shows it on the outcomes of now, with the operations that make it; the runs on the way are told. What it shows
-// is told where what is kept is sound for the hosts; that the page stands, and what is left of world and shelf, hold under any, so each has a
-// clause of its own.
+// A page of a template that shows it on the outcomes of now, with the operations that make it; the runs on the way are told.
 fn fresh(
     world: &mut World,
     shelf: &mut Shelf,
@@ -49,22 +46,15 @@ fn fresh(
     told: &mut Vec<Entry>,
 ) -> Result<(Box<Page>, Vec<Op>), NoMemory>
     requires template { IsTemplate (lines_of linked.now.template) }
-    requires agrees { Agrees (⟦<Shelf as Lent>⟧.asked shelf.old) world.old }
-    requires counted { ⟦<Shelf as Lent>⟧.counted shelf.old }
-    requires worn { world.old.graph.state.worn < 2 ^ 126 }
-    requires room { most_asked (⟦<Shelf as Lent>⟧.asked shelf.old) < 2 ^ 126 }
+    requires can { CanSettle (⟦<Shelf as Lent>⟧.asked shelf.old) world.old (⟦<Shelf as Lent>⟧.counted shelf.old) (2 ^ 126) }
     ensures page { (hosts : Hosts) (slacks : List ℕ) → ⟦<Shelf as Lent>⟧.answers hosts shelf.old →
         IsSound hosts (⟦<Shelf as Lent>⟧.asked shelf.old) world.old →
         IfOk result (λ made. IsFresh (environment hosts slacks) (labels_of labels.now) (template_of linked.now) (⟦<Shelf as Lent>⟧.asked shelf.old)
         (⟦<Shelf as Lent>⟧.asked shelf.new) world.old world.new (page_in (standing made.0.value)) (map op_of made.1.items) told.old.items told.new.items journal.old journal.new) }
     ensures stands { IfOk result (λ made. Stands (lines_of linked.now.template) linked.now.links.items (standing made.0.value)) }
     ensures standing { IfOk result (λ made. IsStanding (standing made.0.value)) }
-    ensures world { OnOk result (Settles world.old world.new) }
-    ensures agrees { OnOk result (Agrees (⟦<Shelf as Lent>⟧.asked shelf.new) world.new) }
-    ensures worn { OnOk result (world.new.graph.state.worn ≤ world.old.graph.state.worn + 2 ^ 64) }
-    ensures answers { (hosts : Hosts) → ⟦<Shelf as Lent>⟧.answers hosts shelf.old → OnOk result (⟦<Shelf as Lent>⟧.answers hosts shelf.new) }
-    ensures counted { OnOk result (⟦<Shelf as Lent>⟧.counted shelf.new) }
-    ensures most { OnOk result (most_asked (⟦<Shelf as Lent>⟧.asked shelf.new) ≤ most_asked (⟦<Shelf as Lent>⟧.asked shelf.old) + 2 ^ 71) }
+    ensures settled { OnOk result (Settled (⟦<Shelf as Lent>⟧.asked shelf.old) (⟦<Shelf as Lent>⟧.asked shelf.new) world.old world.new
+        (λ hosts. ⟦<Shelf as Lent>⟧.answers hosts shelf.old) (λ hosts. ⟦<Shelf as Lent>⟧.answers hosts shelf.new) (⟦<Shelf as Lent>⟧.counted shelf.new) (2 ^ 64) (2 ^ 71)) }
 {
     let alloc = *told.allocator();
     let mut notes = Vec::new(alloc);
@@ -77,8 +67,7 @@ fn fresh(
 }
 
 /// A page of a template that shows it on the outcomes of now, and the entries of its making: the runs on the way, the operations that lead
-/// to it from a page without nodes, and the page. Its clauses are those of a page that is made, and two ask that the template is one of
-/// those that are kept.
+/// to it from a page without nodes, and the page. The template is one of those that are kept.
 ///
 /// # Errors
 ///
@@ -95,22 +84,15 @@ pub fn mount(
 ) -> Result<Page, NoMemory>
     requires known { template < length templates.now }
     requires templates { AreTemplates templates.now }
-    requires agrees { Agrees (⟦<Shelf as Lent>⟧.asked shelf.old) world.old }
-    requires counted { ⟦<Shelf as Lent>⟧.counted shelf.old }
-    requires worn { world.old.graph.state.worn < 2 ^ 126 }
-    requires room { most_asked (⟦<Shelf as Lent>⟧.asked shelf.old) < 2 ^ 126 }
+    requires can { CanSettle (⟦<Shelf as Lent>⟧.asked shelf.old) world.old (⟦<Shelf as Lent>⟧.counted shelf.old) (2 ^ 126) }
     ensures page { (hosts : Hosts) (slacks : List ℕ) → ⟦<Shelf as Lent>⟧.answers hosts shelf.old →
         IsSound hosts (⟦<Shelf as Lent>⟧.asked shelf.old) world.old →
         IfOk result (λ page. IsMounted (environment hosts slacks) (labels_of labels.now) (map template_of templates.now) (⟦<Shelf as Lent>⟧.asked shelf.old)
         (⟦<Shelf as Lent>⟧.asked shelf.new) world.old world.new name.now template (page_in (standing page)) told.old.items told.new.items journal.old journal.new) }
     ensures stands { IfOk result (λ page. Stands (template_in (map template_of templates.now) template).lines
         (template_in (map template_of templates.now) template).links (standing page)) }
-    ensures world { OnOk result (Settles world.old world.new) }
-    ensures agrees { OnOk result (Agrees (⟦<Shelf as Lent>⟧.asked shelf.new) world.new) }
-    ensures worn { OnOk result (world.new.graph.state.worn ≤ world.old.graph.state.worn + 2 ^ 64) }
-    ensures answers { (hosts : Hosts) → ⟦<Shelf as Lent>⟧.answers hosts shelf.old → OnOk result (⟦<Shelf as Lent>⟧.answers hosts shelf.new) }
-    ensures counted { OnOk result (⟦<Shelf as Lent>⟧.counted shelf.new) }
-    ensures most { OnOk result (most_asked (⟦<Shelf as Lent>⟧.asked shelf.new) ≤ most_asked (⟦<Shelf as Lent>⟧.asked shelf.old) + 2 ^ 71) }
+    ensures settled { OnOk result (Settled (⟦<Shelf as Lent>⟧.asked shelf.old) (⟦<Shelf as Lent>⟧.asked shelf.new) world.old world.new
+        (λ hosts. ⟦<Shelf as Lent>⟧.answers hosts shelf.old) (λ hosts. ⟦<Shelf as Lent>⟧.answers hosts shelf.new) (⟦<Shelf as Lent>⟧.counted shelf.new) (2 ^ 64) (2 ^ 71)) }
 {
     let linked = template_among(templates, template);
     let (page, ops) = fresh(world, shelf, linked, labels, journal, told)?;
@@ -119,8 +101,7 @@ pub fn mount(
     Ok(Box::into_inner(page))
 }
 
-// The tree of what a template shows from scratch on the outcomes of now; the runs on the way are told. What it shows is told where what is
-// kept is sound for the hosts; what is left of world and shelf holds under any, so each part of it has a clause of its own.
+// The tree of what a template shows from scratch on the outcomes of now; the runs on the way are told.
 fn fresh_tree(
     world: &mut World,
     shelf: &mut Shelf,
@@ -130,20 +111,13 @@ fn fresh_tree(
     told: &mut Vec<Entry>,
 ) -> Result<Tree, NoMemory>
     requires template { IsTemplate (lines_of linked.now.template) }
-    requires agrees { Agrees (⟦<Shelf as Lent>⟧.asked shelf.old) world.old }
-    requires counted { ⟦<Shelf as Lent>⟧.counted shelf.old }
-    requires worn { world.old.graph.state.worn < 2 ^ 126 }
-    requires room { most_asked (⟦<Shelf as Lent>⟧.asked shelf.old) < 2 ^ 126 }
+    requires can { CanSettle (⟦<Shelf as Lent>⟧.asked shelf.old) world.old (⟦<Shelf as Lent>⟧.counted shelf.old) (2 ^ 126) }
     ensures tree { (hosts : Hosts) (slacks : List ℕ) → ⟦<Shelf as Lent>⟧.answers hosts shelf.old →
         IsSound hosts (⟦<Shelf as Lent>⟧.asked shelf.old) world.old →
         IfOk result (λ tree. IsFreshTree (environment hosts slacks) (labels_of labels.now) (template_of linked.now) (⟦<Shelf as Lent>⟧.asked shelf.old)
         (⟦<Shelf as Lent>⟧.asked shelf.new) world.old world.new tree told.old.items told.new.items journal.old journal.new) }
-    ensures world { OnOk result (Settles world.old world.new) }
-    ensures agrees { OnOk result (Agrees (⟦<Shelf as Lent>⟧.asked shelf.new) world.new) }
-    ensures worn { OnOk result (world.new.graph.state.worn ≤ world.old.graph.state.worn + 2 ^ 64) }
-    ensures answers { (hosts : Hosts) → ⟦<Shelf as Lent>⟧.answers hosts shelf.old → OnOk result (⟦<Shelf as Lent>⟧.answers hosts shelf.new) }
-    ensures counted { OnOk result (⟦<Shelf as Lent>⟧.counted shelf.new) }
-    ensures most { OnOk result (most_asked (⟦<Shelf as Lent>⟧.asked shelf.new) ≤ most_asked (⟦<Shelf as Lent>⟧.asked shelf.old) + 2 ^ 71) }
+    ensures settled { OnOk result (Settled (⟦<Shelf as Lent>⟧.asked shelf.old) (⟦<Shelf as Lent>⟧.asked shelf.new) world.old world.new
+        (λ hosts. ⟦<Shelf as Lent>⟧.answers hosts shelf.old) (λ hosts. ⟦<Shelf as Lent>⟧.answers hosts shelf.new) (⟦<Shelf as Lent>⟧.counted shelf.new) (2 ^ 64) (2 ^ 71)) }
 {
     let mut notes = Vec::new(*told.allocator());
     let tree = tree_from_scratch(
@@ -158,8 +132,8 @@ fn fresh_tree(
     Ok(tree)
 }
 
-/// The HTML of what a template shows from scratch on the outcomes of now; the runs on the way are told. No page is made for it. Its clauses
-/// are those of the tree that it writes, and two ask that the template is one of those that are kept.
+/// The HTML of what a template shows from scratch on the outcomes of now; the runs on the way are told. No page is made for it. The template is
+/// one of those that are kept.
 ///
 /// # Errors
 ///
@@ -175,20 +149,13 @@ pub fn scratch(
 ) -> Result<PageBytes, NoMemory>
     requires known { template < length templates.now }
     requires templates { AreTemplates templates.now }
-    requires agrees { Agrees (⟦<Shelf as Lent>⟧.asked shelf.old) world.old }
-    requires counted { ⟦<Shelf as Lent>⟧.counted shelf.old }
-    requires worn { world.old.graph.state.worn < 2 ^ 126 }
-    requires room { most_asked (⟦<Shelf as Lent>⟧.asked shelf.old) < 2 ^ 126 }
+    requires can { CanSettle (⟦<Shelf as Lent>⟧.asked shelf.old) world.old (⟦<Shelf as Lent>⟧.counted shelf.old) (2 ^ 126) }
     ensures html { (hosts : Hosts) (slacks : List ℕ) → ⟦<Shelf as Lent>⟧.answers hosts shelf.old →
         IsSound hosts (⟦<Shelf as Lent>⟧.asked shelf.old) world.old →
         IfOk result (λ html. IsScratched (environment hosts slacks) (labels_of labels.now) (map template_of templates.now) (⟦<Shelf as Lent>⟧.asked shelf.old)
         (⟦<Shelf as Lent>⟧.asked shelf.new) world.old world.new template html told.old.items told.new.items journal.old journal.new) }
-    ensures world { OnOk result (Settles world.old world.new) }
-    ensures agrees { OnOk result (Agrees (⟦<Shelf as Lent>⟧.asked shelf.new) world.new) }
-    ensures worn { OnOk result (world.new.graph.state.worn ≤ world.old.graph.state.worn + 2 ^ 64) }
-    ensures answers { (hosts : Hosts) → ⟦<Shelf as Lent>⟧.answers hosts shelf.old → OnOk result (⟦<Shelf as Lent>⟧.answers hosts shelf.new) }
-    ensures counted { OnOk result (⟦<Shelf as Lent>⟧.counted shelf.new) }
-    ensures most { OnOk result (most_asked (⟦<Shelf as Lent>⟧.asked shelf.new) ≤ most_asked (⟦<Shelf as Lent>⟧.asked shelf.old) + 2 ^ 71) }
+    ensures settled { OnOk result (Settled (⟦<Shelf as Lent>⟧.asked shelf.old) (⟦<Shelf as Lent>⟧.asked shelf.new) world.old world.new
+        (λ hosts. ⟦<Shelf as Lent>⟧.answers hosts shelf.old) (λ hosts. ⟦<Shelf as Lent>⟧.answers hosts shelf.new) (⟦<Shelf as Lent>⟧.counted shelf.new) (2 ^ 64) (2 ^ 71)) }
 {
     let linked = template_among(templates, template);
     let tree = fresh_tree(world, shelf, linked, labels, journal, told)?;

@@ -1,16 +1,15 @@
 // Pages are brought up to date.
-ghost use Rattle.std.specs.Prelude.{◌≡◌, ◌+◌, ◌≤◌, ◌<◌, ◌^◌, ℕ, List, IfOk, OnOk, length};
+ghost use Rattle.std.specs.Prelude.{◌≡◌, ◌≤◌, ◌^◌, ℕ, List, IfOk, OnOk, length};
 ghost use Rattle.signal_model.specs.Recipes.{Hosts};
-ghost use Rattle.sig_host.specs.Hosts.{most_asked};
 ghost use Rattle.sig_base.specs.declared.limits.TheConstants.{MOST_PAGES};
 ghost use Rattle.sig_effect.specs.Stores.{environment};
-ghost use Rattle.effect_world.specs.Stores.{Agrees, IsSound};
+ghost use Rattle.effect_world.specs.Stores.{IsSound};
 ghost use Rattle.tpl_live.specs.Pages.{IsStanding};
 ghost use Rattle.tpl_live.specs.Contents.{standing};
 ghost use Rattle.live_model.specs.Machine.{Machine};
 ghost use Rattle.live_model.specs.Pages.{Template};
 ghost use Rattle.live_labels.specs.Views.{labels_of};
-ghost use Rattle.live_pages.specs.Updates.{numbers_of, AreUpdated, AreShown, AreStanding, IsUpdated, IsShown, Settles};
+ghost use Rattle.live_pages.specs.Updates.{numbers_of, AreUpdated, AreShown, AreStanding, CanSettle, IsUpdated, IsShown, Settled};
 
 use crate::mounted::Mounted;
 use crate::report::tell_news;
@@ -22,8 +21,7 @@ use sig_base::NoMemory;
 use sig_host::{Lent, Shelf};
 use std::alloc::Global;
 
-// Brings a page up to date, and tells the runs on the way and its news. World, shelf and page are asked for and given back part by part, as
-// pages follow one another; what is shown, what stays sound and how the shelf answers hold for other hosts each, so they are clauses apart.
+// Brings a page up to date, and tells the runs on the way and its news.
 fn bring_up(
     world: &mut World,
     shelf: &mut Shelf,
@@ -32,27 +30,18 @@ fn bring_up(
     page: &mut Mounted,
     told: &mut Vec<Entry>,
 ) -> Result<(), NoMemory>
-    requires agrees { Agrees (⟦<Shelf as Lent>⟧.asked shelf.old) world.old }
-    requires counted { ⟦<Shelf as Lent>⟧.counted shelf.old }
     requires stands { IsStanding (standing page.old.page) }
-    requires worn { world.old.graph.state.worn < 2 ^ 126 }
-    requires room { most_asked (⟦<Shelf as Lent>⟧.asked shelf.old) < 2 ^ 126 }
+    requires can { CanSettle (⟦<Shelf as Lent>⟧.asked shelf.old) world.old (⟦<Shelf as Lent>⟧.counted shelf.old) (2 ^ 126) }
     ensures page { (hosts : Hosts) (slacks : List ℕ) (templates : List Template) → ⟦<Shelf as Lent>⟧.answers hosts shelf.old →
         IsSound hosts (⟦<Shelf as Lent>⟧.asked shelf.old) world.old → IsShown templates page.old →
         OnOk result (IsUpdated (environment hosts slacks) (labels_of labels.now)
         templates (⟦<Shelf as Lent>⟧.asked shelf.old) (⟦<Shelf as Lent>⟧.asked shelf.new)
         world.old world.new page.old page.new told.old.items told.new.items journal.old journal.new) }
     ensures shown { (templates : List Template) → IsShown templates page.old → OnOk result (IsShown templates page.new) }
-    ensures sound { (hosts : Hosts) → ⟦<Shelf as Lent>⟧.answers hosts shelf.old → IsSound hosts (⟦<Shelf as Lent>⟧.asked shelf.old) world.old →
-        OnOk result (IsSound hosts (⟦<Shelf as Lent>⟧.asked shelf.new) world.new) }
-    ensures world { OnOk result (Settles world.old world.new) }
-    ensures agrees { OnOk result (Agrees (⟦<Shelf as Lent>⟧.asked shelf.new) world.new) }
     ensures stands { OnOk result (IsStanding (standing page.new.page)) }
     ensures number { OnOk result (page.new.number ≡ page.old.number) }
-    ensures worn { OnOk result (world.new.graph.state.worn ≤ world.old.graph.state.worn + 2 ^ 64) }
-    ensures answers { (hosts : Hosts) → ⟦<Shelf as Lent>⟧.answers hosts shelf.old → OnOk result (⟦<Shelf as Lent>⟧.answers hosts shelf.new) }
-    ensures counted { OnOk result (⟦<Shelf as Lent>⟧.counted shelf.new) }
-    ensures most { OnOk result (most_asked (⟦<Shelf as Lent>⟧.asked shelf.new) ≤ most_asked (⟦<Shelf as Lent>⟧.asked shelf.old) + 2 ^ 71) }
+    ensures settled { OnOk result (Settled (⟦<Shelf as Lent>⟧.asked shelf.old) (⟦<Shelf as Lent>⟧.asked shelf.new) world.old world.new
+        (λ hosts. ⟦<Shelf as Lent>⟧.answers hosts shelf.old) (λ hosts. ⟦<Shelf as Lent>⟧.answers hosts shelf.new) (⟦<Shelf as Lent>⟧.counted shelf.new) (2 ^ 64) (2 ^ 71)) }
 {
     let mut notes = Vec::new(*told.allocator());
     let ops = page.page.update(&mut world.graph, shelf, &mut notes)?;
@@ -63,8 +52,7 @@ fn bring_up(
 }
 
 /// Brings all pages up to date, in order of mounting, and tells the runs on the way and their news: the operations on each page that has one,
-/// and its HTML behind them. World, shelf and pages are asked for and given back part by part, since a flush goes on after it; what is shown,
-/// what stays sound and how the shelf answers hold for other hosts each, so they are clauses apart.
+/// and its HTML behind them.
 ///
 /// # Errors
 ///
@@ -77,27 +65,18 @@ pub fn bring_all_up(
     journal: &mut Option<Recorder>,
     pages: &mut Vec<Mounted>,
 ) -> Result<Vec<Entry>, NoMemory>
-    requires agrees { Agrees (⟦<Shelf as Lent>⟧.asked shelf.old) world.old }
-    requires counted { ⟦<Shelf as Lent>⟧.counted shelf.old }
     requires stand { AreStanding pages.old.items }
     requires few { length pages.old.items ≤ MOST_PAGES }
-    requires worn { world.old.graph.state.worn < 2 ^ 125 }
-    requires room { most_asked (⟦<Shelf as Lent>⟧.asked shelf.old) < 2 ^ 125 }
+    requires can { CanSettle (⟦<Shelf as Lent>⟧.asked shelf.old) world.old (⟦<Shelf as Lent>⟧.counted shelf.old) (2 ^ 125) }
     ensures pages { (hosts : Hosts) (slacks : List ℕ) (m : Machine) → ⟦<Shelf as Lent>⟧.answers hosts shelf.old →
         IsSound hosts (⟦<Shelf as Lent>⟧.asked shelf.old) world.old → AreShown m.templates pages.old.items →
         IfOk result (λ es. AreUpdated (environment hosts slacks) m
         (labels_of labels.now) (⟦<Shelf as Lent>⟧.asked shelf.old) (⟦<Shelf as Lent>⟧.asked shelf.new)
         world.old world.new pages.old.items pages.new.items es.items journal.old journal.new) }
     ensures shown { (templates : List Template) → AreShown templates pages.old.items → OnOk result (AreShown templates pages.new.items) }
-    ensures sound { (hosts : Hosts) → ⟦<Shelf as Lent>⟧.answers hosts shelf.old → IsSound hosts (⟦<Shelf as Lent>⟧.asked shelf.old) world.old →
-        OnOk result (IsSound hosts (⟦<Shelf as Lent>⟧.asked shelf.new) world.new) }
-    ensures world { OnOk result (Settles world.old world.new) }
-    ensures agrees { OnOk result (Agrees (⟦<Shelf as Lent>⟧.asked shelf.new) world.new) }
     ensures numbers { OnOk result (numbers_of pages.new.items ≡ numbers_of pages.old.items) }
-    ensures worn { OnOk result (world.new.graph.state.worn ≤ world.old.graph.state.worn + 2 ^ 68) }
-    ensures answers { (hosts : Hosts) → ⟦<Shelf as Lent>⟧.answers hosts shelf.old → OnOk result (⟦<Shelf as Lent>⟧.answers hosts shelf.new) }
-    ensures counted { OnOk result (⟦<Shelf as Lent>⟧.counted shelf.new) }
-    ensures most { OnOk result (most_asked (⟦<Shelf as Lent>⟧.asked shelf.new) ≤ most_asked (⟦<Shelf as Lent>⟧.asked shelf.old) + 2 ^ 75) }
+    ensures settled { OnOk result (Settled (⟦<Shelf as Lent>⟧.asked shelf.old) (⟦<Shelf as Lent>⟧.asked shelf.new) world.old world.new
+        (λ hosts. ⟦<Shelf as Lent>⟧.answers hosts shelf.old) (λ hosts. ⟦<Shelf as Lent>⟧.answers hosts shelf.new) (⟦<Shelf as Lent>⟧.counted shelf.new) (2 ^ 68) (2 ^ 75)) }
 {
     let mut told = Vec::new(alloc);
     for page in pages.iter_mut() {

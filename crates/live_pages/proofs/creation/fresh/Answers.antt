@@ -1,11 +1,6 @@
-use Rattle.std.proofs.Common.{◌≡◌, ◌++◌, [], ℕ, List, length, map, arith, refl, ap, subst, ◌∙◌}
+use Rattle.std.proofs.Common.{◌≡◌, ◌++◌, ℕ, List, map, arith, ap, ◌∙◌}
 use Rattle.std.specs.Option.{option_map}
-use Rattle.std.proofs.lemmas.List.{length-map}
-use Rattle.sig_computed.specs.Notes.{note_of, IsSettling}
-use Rattle.sig_computed.specs.declared.notes.RunNote.{RunNote}
-use Rattle.sig_effect.proofs.Shared.{agrees_settled, settle_does}
-use Rattle.effect_world.specs.Wholes.{stores_of}
-use Rattle.effect_world.proofs.Shared.{owned_still, settle_done}
+use Rattle.sig_computed.specs.Notes.{note_of}
 use Rattle.page_model.specs.Pages.{bare}
 use Rattle.tpl_live.specs.Pages.{page_in}
 use Rattle.tpl_live.specs.Contents.{standing}
@@ -13,11 +8,11 @@ use Rattle.tpl_model.specs.Updates.{Updated, updated}
 use Rattle.why_model.specs.Facts.{has_run}
 use Rattle.why_model.specs.Records.{with_facts}
 use Rattle.live_why.specs.Views as facts
-use Rattle.live_model.specs.Pages.{asked_of}
 use Rattle.live_labels.specs.Entries.{note_entry}
 use Rattle.live_labels.specs.Views.{labels_of}
 use Rattle.live_pages.specs.Views.{template_of}
 use Rattle.live_pages.proofs.Pages.{fresh_made}
+use Rattle.live_pages.proofs.Settling.{settled_by, settled_does}
 use Rattle.live_pages.proofs.creation.fresh.Goals as goal
 
 pub returns-clause-page : goal.returns-clause-page
@@ -28,15 +23,8 @@ returns-clause-page g c = λ hosts slacks all sound.
     let s = (rw (c.in_ok-links.ensures, c.deref.ensures.value) at e).settles in
     let links : c.in_ok-links.links.items ≡ c.args.linked.now.links.items = c.in_ok-links.ensures ∙ c.deref.ensures.value in
     let carried : List ℕ → Updated = λ ls. updated hosts w.graph.state.signals t.lines ls w.graph.state.memos bare in
-    let new = record w { graph = c.mount.new.graph } in
-    let none : c.new-notes.result.items ≡ [] = c.new-notes.ensures.items in
-    let names = asked_of hosts w.graph.state.signals t in
-    let d = settle_does hosts slacks _ _ (stores_of w) (stores_of new) names c.mount.new.notes.items [] _ s.signals s.given refl
-    (subst (λ (ns : List RunNote). IsSettling hosts w.graph.state.signals w.graph.state.memos names
-    (map note_of ns) (map note_of c.mount.new.notes.items) c.mount.new.graph.state.memos) none (s.settled hosts all sound.kept))
-    (s.asked hosts all sound.kept) refl (s.kept hosts all sound.kept) sound in
-    let lifted = settle_done hosts slacks _ _ w new [] _ names d refl c.requires.agrees.owned.tables in
-    fresh_made hosts slacks _ _ (labels_of c.args.labels.now) t w new _ _ c.args.told.now.items c.tell_runs.new.told.items c.args.journal.now c.tell_runs.new.journal
+    let lifted = settled_does hosts slacks _ _ _ _ _ w c.mount.new.graph c.new-notes.result.items c.mount.new.notes.items c.new-notes.ensures.items c.requires.can.agrees s all sound in
+    fresh_made hosts slacks _ _ (labels_of c.args.labels.now) t w (record w { graph = c.mount.new.graph }) _ _ c.args.told.now.items c.tell_runs.new.told.items c.args.journal.now c.tell_runs.new.journal
     c.mount.new.notes.items lifted
     (ap (λ z. page_in (standing z)) c.in_ok-page-2.ensures.ok ∙ (e.page hosts all sound.kept ∙ ap (λ (ls : List ℕ). (carried ls).page) links))
     (e.ops hosts all sound.kept ∙ ap (λ (ls : List ℕ). (carried ls).ops) links)
@@ -49,36 +37,8 @@ returns-clause-stands g c = rw c.in_ok-page-2.ensures.ok (rw (c.in_ok-links.ensu
 pub returns-clause-standing : goal.returns-clause-standing
 returns-clause-standing g c = rw c.in_ok-page-2.ensures.ok (record { lines = _; links = _; stands = c.in_ok-page.ensures.stands })
 
-pub returns-clause-world : goal.returns-clause-world
-returns-clause-world g c = let s = c.in_ok-page.ensures.settles in record { signals = s.signals; given = s.given; watchers = refl; tables = refl }
-
-pub returns-clause-agrees : goal.returns-clause-agrees
-returns-clause-agrees g c =
-    let w = c.args.world.now in
-    let s = c.in_ok-page.ensures.settles in
-    let new = record w { graph = c.mount.new.graph } in
-    record {
-      signals = agrees_settled _ _ (stores_of w) (stores_of new) s.signals s.idle s.there refl c.requires.agrees.signals;
-      owned = owned_still w new s.given refl c.requires.agrees.owned;
-    }
-
-pub returns-clause-answers : goal.returns-clause-answers
-returns-clause-answers g c = c.in_ok-page.ensures.settles.answers
-
-pub returns-clause-most : goal.returns-clause-most
-returns-clause-most g c =
-    let s = c.in_ok-page.ensures.settles in
-    let a = s.most in
-    let b = ap (λ (ns : List RunNote). length (map note_of ns)) c.new-notes.ensures.items in
-    let d = c.mount.new.notes.small in
-    let e = length-map c.mount.new.notes.items note_of in
-    omega (arith, a, b, d, e)
-
-pub returns-clause-worn : goal.returns-clause-worn
-returns-clause-worn g c =
-    let s = c.in_ok-page.ensures.settles in
-    let a = s.worn in
-    let b = ap (λ (ns : List RunNote). length (map note_of ns)) c.new-notes.ensures.items in
-    let d = c.mount.new.notes.small in
-    let e = length-map c.mount.new.notes.items note_of in
-    omega (arith, a, b, d, e)
+pub returns-clause-settled : goal.returns-clause-settled
+returns-clause-settled g c =
+    let few = c.mount.new.notes.small in
+    settled_by _ _ _ _ _ _ c.args.world.now c.mount.new.graph c.new-notes.result.items c.mount.new.notes.items c.new-notes.ensures.items (omega (arith, few))
+    c.requires.can.agrees c.in_ok-page.ensures.counted c.in_ok-page.ensures.settles

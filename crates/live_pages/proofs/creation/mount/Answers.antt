@@ -21,7 +21,7 @@ returns-clause-page g c = λ hosts slacks all sound.
     (page_in (standing c.into_inner.result)) (map op_of c.in_ok-page.ops.items) c.args.told.now.items c.fresh.new.told.items c.tell_page.new.told.items
     c.args.journal.now c.fresh.new.journal
     c.template_among-linked.ensures.known
-    (record { world = f.world; told = f.told; labels = f.labels; noted = f.noted; page = ap (λ p. page_in (standing p)) c.into_inner.ensures ∙ f.page; ops = f.ops; sound = f.sound })
+    (record { world = f.world; told = f.told; labels = f.labels; noted = f.noted; page = ap (λ p. page_in (standing p)) c.into_inner.ensures ∙ f.page; ops = f.ops })
     (c.in_ok-tell_page.ensures ∙ ap (λ p. c.tell_ops.new.told.items ++ html p) (c.deref.ensures ∙ sym c.into_inner.ensures)
     ∙ ap (λ (es : List Entry). es ++ html c.into_inner.result) c.in_ok-tell_ops.ensures)
 

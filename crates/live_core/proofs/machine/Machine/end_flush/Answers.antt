@@ -19,21 +19,28 @@ returns-clause-steps g c = λ hosts slacks all sound.
     let up = e.pages hosts slacks (plain_of [] m) all sound c.requires.shown in
     let new = record m { world = c.bring_all_up.new.world; journal = c.bring_all_up.new.journal; pages = c.bring_all_up.new.pages } in
     brought_steps hosts (environment hosts slacks) _ _ m new c.args.told.items c.in_ok-pages.pages.items c.append.new.told.items
-    c.args.refused (sym c.if-refused.false) up refl c.in_ok-append.ensures (e.sound hosts all sound)
+    c.args.refused (sym c.if-refused.false) up refl c.in_ok-append.ensures (e.settled.sound hosts all sound)
 
 pub returns-clause-leaves : goal.returns-clause-leaves
 returns-clause-leaves g c = λ hosts count ready all sound.
     let m = c.args.self.now in
     let e = c.in_ok-pages.ensures in
+    let s = e.settled in
     let new = record m { world = c.bring_all_up.new.world; journal = c.bring_all_up.new.journal; pages = c.bring_all_up.new.pages } in
     record {
       ready = ready_changed m new ready
-          (record { names = refl; templates = refl; handlers = refl; scripts = refl; labels = record { signals = refl; owners = refl; pages = refl; watchers = refl } }) (stays_settled m.world new.world e.world) (e.shown (map template_of m.templates.items) c.requires.shown)
-          (pages_kept m.world new.world m.pages.items new.pages.items e.numbers (ap (λ t. t.pages.items) e.world.tables) (ap (λ t. t.pages_made) e.world.tables) ready.pages)
-          (roomy_same m.world.graph.state.signals new.world.graph.state.signals m.batch e.world.signals ready.batch);
-      holds = λ h. record { agrees = e.agrees; ruled = subst (AreRuled count) (sym e.world.signals) h.ruled };
-      weight = let a = e.worn in let b = ap (λ t. t.effects_made) e.world.tables in omega (arith, a, b);
+          (record { names = refl; templates = refl; handlers = refl; scripts = refl; labels = record { signals = refl; owners = refl; pages = refl; watchers = refl } }) (stays_settled m.world new.world s.stays) (e.shown (map template_of m.templates.items) c.requires.shown)
+          (pages_kept m.world new.world m.pages.items new.pages.items e.numbers (ap (λ t. t.pages.items) s.stays.tables) (ap (λ t. t.pages_made) s.stays.tables) ready.pages)
+          (roomy_same m.world.graph.state.signals new.world.graph.state.signals m.batch s.stays.signals ready.batch);
+      holds = λ h. record { agrees = s.agrees; ruled = subst (AreRuled count) (sym s.stays.signals) h.ruled };
+      weight = let a = s.worn in let b = ap (λ t. t.effects_made) s.stays.tables in omega (arith, a, b);
     }
+
+pub bring_all_up-requires-clause-can : goal.bring_all_up-requires-clause-can
+bring_all_up-requires-clause-can g c =
+    let w = c.requires.weight in
+    let r = c.requires.room in
+    record { agrees = c.requires.agrees; counted = c.requires.counted; worn = omega (arith, w); room = omega (arith, r) }
 
 pub bring_all_up-requires-clause-stand : goal.bring_all_up-requires-clause-stand
 bring_all_up-requires-clause-stand g c = all_standing (map template_of c.args.self.now.templates.items) c.args.self.now.pages.items c.requires.shown

@@ -26,12 +26,12 @@ make_page-requires-clause-open g c =
     let m = c.args.self.now in
     let fine = neither (refused_at m.world m.names c.args.name need.New) _ (uses_fine m (command.Mount c.args.name c.args.template.now c.args.inside.now) c.requires.fine) in
     let second = neither (refused_at m.world m.names c.args.template.now (need.Of kind.Template)) _ fine.1 in
-    let same = c.in_ok-page.ensures.world.tables in
+    let same = c.in_ok-page.ensures.settled.stays.tables in
     subst (λ x. x) (λ i. is_open (living 0 (sym same i).owners.items) (sym c.owner_of-owner.ensures i) ≡ true) (inside_open m.world m.names c.args.inside.now second.1)
 
 pub make_page-requires-clause-room : goal.make_page-requires-clause-room
 make_page-requires-clause-room g c =
-    subst (λ t. length t.pages.items < MOST_PAGES) (sym c.in_ok-page.ensures.world.tables)
+    subst (λ t. length t.pages.items < MOST_PAGES) (sym c.in_ok-page.ensures.settled.stays.tables)
     (room_below MOST_PAGES (length c.args.self.now.world.tables.pages.items) limit.Pages c.requires.room)
 
 pub make_page-requires-clause-counted : goal.make_page-requires-clause-counted
@@ -39,7 +39,7 @@ make_page-requires-clause-counted g c =
     let a = c.requires.ready.paged in
     let b = c.args.self.now.labels.pages.ok.0 in
     let d = c.args.self.now.labels.pages.small in
-    let e = ap (λ t. t.pages_made) c.in_ok-page.ensures.world.tables in
+    let e = ap (λ t. t.pages_made) c.in_ok-page.ensures.settled.stays.tables in
     omega (arith, a, b, d, e)
 
 pub add_page-requires : goal.add_page-requires
@@ -56,10 +56,10 @@ returns-clause-steps g c = λ hosts slacks all sound.
     let a = c.in_ok-add_page.ensures in
     let t : c.number_of-template.result ≡ number_of m.names c.args.template.now = c.number_of-template.ensures in
     let up = e.page hosts slacks all sound in
-    let d = c.in_ok-number.ensures.does hosts _ up.sound in
+    let d = c.in_ok-number.ensures.does hosts _ (e.settled.sound hosts all sound) in
     let same = rw (c.deref.ensures.value, t, c.new-told.ensures.items) at up in
     mount_steps hosts env _ _ m c.add_page.new.self c.mount.new.world c.make_page.new.world c.mount.new.journal c.args.name (number_of m.names c.args.template.now) c.in_ok-number.number (owner_of m.names c.args.inside.now)
-    c.in_ok-page.page c.mount.new.told.items same (c.in_ok-number.ensures.id ∙ ap (λ x. x.pages_made) e.world.tables)
+    c.in_ok-page.page c.mount.new.told.items same (c.in_ok-number.ensures.id ∙ ap (λ x. x.pages_made) e.settled.stays.tables)
     (by_owner _ c.make_page.new.world c.mount.new.world c.owner_of-owner.result (owner_of m.names c.args.inside.now) d.whole c.owner_of-owner.ensures)
     d.sound a.parts a.names a.labels
     (a.pages ∙ ap (λ (x : ℕ). m.pages.items ++ (record { name = c.args.name; number = c.in_ok-number.number; template = x; page = c.in_ok-page.page }) ∷ []) t)
@@ -69,21 +69,26 @@ returns-clause-leaves g c = λ hosts count all sound.
     let m = c.args.self.now in
     let e = c.in_ok-page.ensures in
     let a = c.in_ok-add_page.ensures in
-    let up = e.page hosts [] all sound in
-    let d = c.in_ok-number.ensures.does hosts _ up.sound in
+    let d = c.in_ok-number.ensures.does hosts _ (e.settled.sound hosts all sound) in
     let fine = neither (refused_at m.world m.names c.args.name need.New) _ (uses_fine m (command.Mount c.args.name c.args.template.now c.args.inside.now) c.requires.fine) in
     let second = neither (refused_at m.world m.names c.args.template.now (need.Of kind.Template)) _ fine.1 in
     let t = c.number_of-template.ensures in
     let below = template_used m.world _ m.names c.args.template.now c.requires.ready.meant (used_of m.world m.names c.args.template.now kind.Template second.0) in
     let page : Mounted = record { name = c.args.name; number = c.in_ok-number.number; template = c.number_of-template.result; page = c.in_ok-page.page } in
     leaves_mounted _ _ count m c.add_page.new.self c.mount.new.world c.make_page.new.world c.mount.new.journal c.args.name c.in_ok-number.number page c.requires.ready a.parts a.names a.labels a.pages c.owner_of-owner.result
-    d.whole c.in_ok-number.ensures.signals e.world (c.in_ok-number.ensures.id ∙ ap (λ x. x.pages_made) e.world.tables)
+    d.whole c.in_ok-number.ensures.signals e.settled.stays (c.in_ok-number.ensures.id ∙ ap (λ x. x.pages_made) e.settled.stays.tables)
     (record {
       template = subst (λ (n : ℕ). n < length (map template_of m.templates.items)) (sym t) (subst (λ (k : ℕ). number_of m.names c.args.template.now < k) (sym (length-map m.templates.items template_of)) below);
       stands = subst (λ ts. Stands (template_in (map template_of ts) c.number_of-template.result).lines (template_in (map template_of ts) c.number_of-template.result).links (standing c.in_ok-page.page)) c.deref.ensures.value e.stands;
     })
     (room_below MOST_PAGES (length m.world.tables.pages.items) limit.Pages c.requires.room)
-    (c.in_ok-number.ensures.agrees _ e.agrees) e.worn
+    (c.in_ok-number.ensures.agrees _ e.settled.agrees) e.settled.worn
+
+pub mount-requires-clause-can : goal.mount-requires-clause-can
+mount-requires-clause-can g c =
+    let w = c.requires.weight in
+    let r = c.requires.most in
+    record { agrees = c.requires.agrees; counted = c.requires.counted; worn = omega (arith, w); room = omega (arith, r) }
 
 pub mount-requires-clause-known : goal.mount-requires-clause-known
 mount-requires-clause-known g c =
