@@ -13,7 +13,6 @@ use Rattle.effect_model.specs.Worlds.{Counts, HostState, unused, used, dropped, 
 use Rattle.effect_model.specs.Acts.{host_of, host_refused, is_free, with_use}
 use Rattle.effect_laws.specs.Counts.{KeepsCounts}
 use Rattle.sig_effect.specs.Kinds.{AreKindsOf, KeepsKinds}
-use Rattle.effect_tables.specs.declared.effect.Effect.{Effect}
 use Rattle.sig_host.specs.Hosts.{HostPlace}
 use Rattle.sig_nodes.specs.Answers.{HasFewSlots}
 use Rattle.sig_nodes.specs.States.{Seen, is_given}
@@ -396,10 +395,6 @@ pub only_three : (x : EffectFault) → (x ≡ fault.Gone → ⊥) → (x ≡ fau
 only_three fault.NoMemory there room = refl
 only_three fault.Gone there room = absurd (there refl)
 only_three fault.Limit there room = absurd (room refl)
-
--- no test is both
-pub true_false : true ≡ false → ⊥
-true_false e = cc
 
 -- so many rules, counted by their slacks
 pub leaves_count : (asked later : List HostPlace) (a b : ℕ) (m new : Machine) → a ≡ b → Leaves asked later a m new → Leaves asked later b m new

@@ -2,6 +2,7 @@ mod OfKind
 mod Names
 mod Rightly
 mod Commands
+mod Doing
 mod Batched
 mod Creations
 mod Mounts

@@ -1,6 +1,6 @@
 -- Pages are mounted, and what a flush comes to.
 use Rattle.std.proofs.Common.{◌≡◌, ◌≤◌, ◌<◌, ◌+◌, ◌^◌, ℕ, arith, Bool, true, false, List, [], ◌∷◌, ◌++◌, length, map, Option, Some, None, refl, sym, ap, subst, ◌∙◌}
-use Rattle.std.proofs.lemmas.List.{length-append}
+use Rattle.std.proofs.lemmas.List.{length-append, map-append}
 use Rattle.sig_base.specs.declared.limits.TheConstants.{MOST_PAGES}
 use Rattle.signal_model.specs.Recipes.{Hosts}
 use Rattle.signal_model.specs.Signals.{standing}
@@ -80,10 +80,6 @@ pub by_owner : (asked : List HostPlace) (v w : World) (o p : Option ℕ) → who
     whole_of asked v ≡ at_rest (with_new_page p (whole_of asked w))
 by_owner asked v w o p e same = e ∙ ap (λ (x : Option ℕ). at_rest (with_new_page x (whole_of asked w))) same
 
-map_append : {A B : Type 0} (f : A → B) (xs ys : List A) → map f (xs ++ ys) ≡ map f xs ++ map f ys
-map_append f [] ys = refl
-map_append f (x ∷ xs) ys = ap (λ zs. f x ∷ zs) (map_append f xs ys)
-
 -- nothing but the pages changed before what was made got its name
 pub named_behind : (m middle new : Machine) → middle ≡ record m { pages = middle.pages } → KeepsParts middle new →
     new ≡ record m { names = new.names; labels = new.labels; pages = new.pages }
@@ -108,7 +104,7 @@ mount_steps hosts env asked later m new w v j n t id inside page es up number wh
         labels = (labels ∙ ap (λ (l : called.Labels). record l { pages = l.pages ++ n ∷ [] }) up.labels) i;
         world = (whole ∙ ap (λ (x : told.World). at_rest (with_new_page inside x)) up.world) i;
         journal = up.noted i;
-        pages = (ap (map page_of) pages ∙ map_append page_of m.pages.items ((record { name = n; number = id; template = t; page = page }) ∷ [])
+        pages = (ap (map page_of) pages ∙ map-append page_of m.pages.items ((record { name = n; number = id; template = t; page = page }) ∷ [])
             ∙ (λ j. map page_of m.pages.items ++ (record { name = n; number = number j; template = t; content = up.page j }) ∷ [])) i;
       }) ((up.told ∙ ap (λ (bs : List ℕ). (plain.settling env (plain_of asked m) (plain.template_reads env (plain_of asked m) t)).entries
           ++ plain.ops_told n (plain.update_of env (plain_of asked m) t bare).ops ++ entry.Page n bs ∷ []) (ap (λ p. html_of (tree_of p)) up.page)) i));

@@ -1,5 +1,6 @@
 -- What names stand for stays made, and of their kind.
 use Rattle.std.proofs.Common.{◌≡◌, ◌≤◌, ◌<◌, ◌+◌, ◌==◌, ℕ, arith, Bool, true, false, cond, List, [], ◌∷◌, ◌++◌, ◌⊎◌, inl, inr, Some, None, refl, sym, ap, subst, ◌∙◌}
+use Rattle.std.proofs.lemmas.Bool.{true≢false}
 use Rattle.std.specs.Str.{bytes_eq}
 use Rattle.std.proofs.lemmas.Bool.{eqb-true, lt-ltb, ltb-true}
 use Rattle.signal_model.specs.Signals.{Signals, Stands, standing}
@@ -56,10 +57,6 @@ meant_more w count more names le all n m is =
       template = λ t. let lt = one.template t in omega (arith, le, lt);
     }
 
--- no test is both
-true_false : true ≡ false → ⊥
-true_false e = cc
-
 -- a name more of what is no signal
 pub meant_other : (w : World) (count : ℕ) (names : Names) (a : List ℕ) (k : Kind) (i : ℕ) → is_signal k ≡ false → ((s : Stands) → is_of_kind k s ≡ true) →
     (same_kind kind.Template k ≡ true → i < count) →
@@ -67,7 +64,7 @@ pub meant_other : (w : World) (count : ℕ) (names : Names) (a : List ℕ) (k : 
 meant_other w count names a k i off any below all n m is = elim (last_or names a (record { kind = k; number = i }) n m is) [
   | inl old ↦ all n m old
   | inr new ↦ subst (IsMeant w count) new
-      (record { given = λ s. absurd (true_false (sym s ∙ off)); fits = any (standing w.graph.state.signals i); template = below })
+      (record { given = λ s. absurd (true≢false (sym s ∙ off)); fits = any (standing w.graph.state.signals i); template = below })
 ]
 
 -- what is below isn't what comes next
@@ -107,7 +104,7 @@ meant_made v w count names a k off given beside here all n m is = elim (last_or 
   | inr new ↦ subst (IsMeant w count) new (record {
     given = λ s. below_given w.graph v.graph.given (omega (arith, given));
     fits = here;
-    template = λ t. absurd (true_false (sym t ∙ off));
+    template = λ t. absurd (true≢false (sym t ∙ off));
   })
 ]
 

@@ -1,3 +1,4 @@
 pub mod Consistency
+pub mod Doing
 pub mod Parts
 pub mod Views

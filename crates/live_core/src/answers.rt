@@ -1,17 +1,17 @@
 // What is told of signals and watchers.
-ghost use Rattle.std.specs.Prelude.{◌≡◌, ◌+◌, ◌∷◌, ◌<◌, ◌≤◌, ◌^◌, ℕ, [], List, IfOk, IfErr, OnOk};
+ghost use Rattle.std.specs.Prelude.{◌≡◌, ◌∷◌, ◌^◌, ℕ, [], List, IfOk, IfErr};
 ghost use Rattle.signal_model.specs.Recipes.{Hosts};
-ghost use Rattle.sig_host.specs.Hosts.{HostPlace, most_asked};
+ghost use Rattle.sig_host.specs.Hosts.{HostPlace};
 ghost use Rattle.sig_nodes.specs.Answers.{mark_meant};
 ghost use Rattle.sig_effect.specs.declared.errors.EffectFault.TheVariants as fault;
 ghost use Rattle.sig_effect.specs.Stores.{environment};
-ghost use Rattle.effect_world.specs.Stores.{Agrees, IsSound};
-ghost use Rattle.effect_world.specs.Costs.{weight};
+ghost use Rattle.effect_world.specs.Stores.{IsSound};
 ghost use Rattle.live_cmd.specs.declared.command.Command.TheVariants as command;
 ghost use Rattle.live_cmd.specs.declared.command.Verb.TheVariants as verb;
 ghost use Rattle.live_entries.specs.declared.entry.Entry.TheVariants as entry;
 ghost use Rattle.live_model.specs.Machine.{done, seen_of};
-ghost use Rattle.live_core.specs.Consistency.{AreFine, IsReady, Leaves, Steps};
+ghost use Rattle.live_core.specs.Consistency.{AreFine, IsReady, Steps};
+ghost use Rattle.live_core.specs.Doing.{CanAsk, Did};
 ghost use Rattle.live_core.specs.Views.{plain_of};
 
 use crate::machine::Machine;
@@ -55,25 +55,12 @@ fn unshown(alloc: Global, name: Name) -> Result<Vec<Entry>, EffectFault>
 }
 
 impl Machine {
-    /// Tells what a name comes to, and the runs on the way. Its clauses are those of each command that may ask host formulas: machine,
-    /// shelf and counters are asked for apart, and what the command comes to and that another may follow are told apart from what is left
-    /// of the shelf, which stands beside the machine.
+    /// Tells what a name comes to, and the runs on the way.
     pub(crate) fn get(&mut self, shelf: &mut Shelf, name: Name) -> Result<Vec<Entry>, EffectFault>
-        requires ready { IsReady self.old }
-        requires weight { weight self.old.world < 2 ^ 125 }
-        requires agrees { Agrees (⟦<Shelf as Lent>⟧.asked shelf.old) self.old.world }
-        requires counted { ⟦<Shelf as Lent>⟧.counted shelf.old }
-        requires room { most_asked (⟦<Shelf as Lent>⟧.asked shelf.old) < 2 ^ 125 }
-        ensures steps { (hosts : Hosts) (slacks : List ℕ) → ⟦<Shelf as Lent>⟧.answers hosts shelf.old →
-            IsSound hosts (⟦<Shelf as Lent>⟧.asked shelf.old) self.old.world →
-            IfOk result (λ es. Steps hosts (⟦<Shelf as Lent>⟧.asked shelf.new) self.new es.items
-            (done (environment hosts slacks) (plain_of (⟦<Shelf as Lent>⟧.asked shelf.old) self.old) (command.Named verb.Get name))) }
-        ensures leaves { (hosts : Hosts) (count : ℕ) → ⟦<Shelf as Lent>⟧.answers hosts shelf.old →
-            IsSound hosts (⟦<Shelf as Lent>⟧.asked shelf.old) self.old.world → OnOk result
-            (Leaves (⟦<Shelf as Lent>⟧.asked shelf.old) (⟦<Shelf as Lent>⟧.asked shelf.new) count self.old self.new) }
-        ensures answers { (hosts : Hosts) → ⟦<Shelf as Lent>⟧.answers hosts shelf.old → OnOk result (⟦<Shelf as Lent>⟧.answers hosts shelf.new) }
-        ensures counted { OnOk result (⟦<Shelf as Lent>⟧.counted shelf.new) }
-        ensures most { OnOk result (most_asked (⟦<Shelf as Lent>⟧.asked shelf.new) ≤ most_asked (⟦<Shelf as Lent>⟧.asked shelf.old) + 2 ^ 80) }
+        requires can { CanAsk (⟦<Shelf as Lent>⟧.asked shelf.old) self.old (⟦<Shelf as Lent>⟧.counted shelf.old) (2 ^ 125) }
+        ensures did { (slacks : List ℕ) (count : ℕ) → IfOk result (λ es. Did (⟦<Shelf as Lent>⟧.asked shelf.old) (⟦<Shelf as Lent>⟧.asked shelf.new) count self.old self.new
+            (λ hosts. ⟦<Shelf as Lent>⟧.answers hosts shelf.old) (λ hosts. ⟦<Shelf as Lent>⟧.answers hosts shelf.new) (⟦<Shelf as Lent>⟧.counted shelf.new) (2 ^ 80)
+            es.items (λ hosts. done (environment hosts slacks) (plain_of (⟦<Shelf as Lent>⟧.asked shelf.old) self.old) (command.Named verb.Get name))) }
         ensures memory { IfErr result (λ e. e ≡ fault.NoMemory) }
     {
         let signal = NodeId::of(self.names.number_of(&name));
@@ -150,29 +137,17 @@ impl Machine {
         Ok(told)
     }
 
-    /// Tells what the template of a page shows from scratch, and the runs on the way. The page stays as it is. Its clauses are those of each
-    /// command that may ask host formulas, as of `get`, and one that the name is fine.
+    /// Tells what the template of a page shows from scratch, and the runs on the way. The page stays as it is.
     pub(crate) fn scratch(
         &mut self,
         shelf: &mut Shelf,
         name: Name,
     ) -> Result<Vec<Entry>, EffectFault>
-        requires ready { IsReady self.old }
-        requires weight { weight self.old.world < 2 ^ 125 }
-        requires agrees { Agrees (⟦<Shelf as Lent>⟧.asked shelf.old) self.old.world }
-        requires counted { ⟦<Shelf as Lent>⟧.counted shelf.old }
-        requires room { most_asked (⟦<Shelf as Lent>⟧.asked shelf.old) < 2 ^ 125 }
+        requires can { CanAsk (⟦<Shelf as Lent>⟧.asked shelf.old) self.old (⟦<Shelf as Lent>⟧.counted shelf.old) (2 ^ 125) }
         requires fine { AreFine self.old (command.Named verb.Scratch name) }
-        ensures steps { (hosts : Hosts) (slacks : List ℕ) → ⟦<Shelf as Lent>⟧.answers hosts shelf.old →
-            IsSound hosts (⟦<Shelf as Lent>⟧.asked shelf.old) self.old.world →
-            IfOk result (λ es. Steps hosts (⟦<Shelf as Lent>⟧.asked shelf.new) self.new es.items
-            (done (environment hosts slacks) (plain_of (⟦<Shelf as Lent>⟧.asked shelf.old) self.old) (command.Named verb.Scratch name))) }
-        ensures leaves { (hosts : Hosts) (count : ℕ) → ⟦<Shelf as Lent>⟧.answers hosts shelf.old →
-            IsSound hosts (⟦<Shelf as Lent>⟧.asked shelf.old) self.old.world → OnOk result
-            (Leaves (⟦<Shelf as Lent>⟧.asked shelf.old) (⟦<Shelf as Lent>⟧.asked shelf.new) count self.old self.new) }
-        ensures answers { (hosts : Hosts) → ⟦<Shelf as Lent>⟧.answers hosts shelf.old → OnOk result (⟦<Shelf as Lent>⟧.answers hosts shelf.new) }
-        ensures counted { OnOk result (⟦<Shelf as Lent>⟧.counted shelf.new) }
-        ensures most { OnOk result (most_asked (⟦<Shelf as Lent>⟧.asked shelf.new) ≤ most_asked (⟦<Shelf as Lent>⟧.asked shelf.old) + 2 ^ 80) }
+        ensures did { (slacks : List ℕ) (count : ℕ) → IfOk result (λ es. Did (⟦<Shelf as Lent>⟧.asked shelf.old) (⟦<Shelf as Lent>⟧.asked shelf.new) count self.old self.new
+            (λ hosts. ⟦<Shelf as Lent>⟧.answers hosts shelf.old) (λ hosts. ⟦<Shelf as Lent>⟧.answers hosts shelf.new) (⟦<Shelf as Lent>⟧.counted shelf.new) (2 ^ 80)
+            es.items (λ hosts. done (environment hosts slacks) (plain_of (⟦<Shelf as Lent>⟧.asked shelf.old) self.old) (command.Named verb.Scratch name))) }
         ensures memory { IfErr result (λ e. e ≡ fault.NoMemory) }
     {
         let page = PageId::of(self.names.number_of(&name));

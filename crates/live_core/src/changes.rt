@@ -1,10 +1,10 @@
 // Cells are set, rows edited, computeds rewired, things disposed, and watchers told what to watch.
-ghost use Rattle.std.specs.Prelude.{◌≡◌, ◌<◌, ◌≤◌, ◌^◌, ℕ, [], List, None, IfOk, IfErr, OnOk, length, map};
+ghost use Rattle.std.specs.Prelude.{◌≡◌, ◌<◌, ◌^◌, ℕ, [], List, None, IfOk, IfErr, OnOk, length, map};
 ghost use Rattle.signal_model.specs.Recipes.{Hosts};
-ghost use Rattle.sig_host.specs.Hosts.{HostPlace, most_asked};
+ghost use Rattle.sig_host.specs.Hosts.{HostPlace};
 ghost use Rattle.sig_effect.specs.declared.errors.EffectFault.TheVariants as fault;
 ghost use Rattle.sig_effect.specs.Stores.{environment, AreRuled};
-ghost use Rattle.effect_world.specs.Stores.{Agrees, AreOwned, IsSound};
+ghost use Rattle.effect_world.specs.Stores.{AreOwned, IsSound};
 ghost use Rattle.effect_world.specs.Costs.{weight};
 ghost use Rattle.effect_world.specs.Wholes.{whole_of};
 ghost use Rattle.live_cmd.specs.declared.command.Command.TheVariants as command;
@@ -12,6 +12,7 @@ ghost use Rattle.live_cmd.specs.declared.command.Verb.TheVariants as verb;
 ghost use Rattle.live_model.specs.Machine.{done, host_refusal, row_refusal, unwatch_refusal};
 ghost use Rattle.live_model.specs.Scripts.{IsReadSource};
 ghost use Rattle.live_core.specs.Consistency.{AreFine, IsReady, Leaves, Steps};
+ghost use Rattle.live_core.specs.Doing.{CanAsk, CanDo, Did};
 ghost use Rattle.live_core.specs.Views.{plain_of};
 
 use crate::lists::edited_rows;
@@ -78,32 +79,21 @@ impl Machine {
         Ok(told)
     }
 
-    /// Gives a computed another formula or host formula. A host formula that is left is dropped, and told. Beside the clauses of each
-    /// command that reaches the shelf, before it and after it, it asks for what each check found: no open batch, names that aren't
-    /// refused, a source with few arguments, and a host formula that is free.
+    /// Gives a computed another formula or host formula. A host formula that is left is dropped, and told.
     pub(crate) fn rewire(
         &mut self,
         shelf: &mut Shelf,
         name: &Name,
         source: SourceText,
     ) -> Result<Vec<Entry>, EffectFault>
-        requires ready { IsReady self.old }
-        requires weight { weight self.old.world < 2 ^ 125 }
-        requires agrees { Agrees (⟦<Shelf as Lent>⟧.asked shelf.old) self.old.world }
-        requires counted { ⟦<Shelf as Lent>⟧.counted shelf.old }
+        requires can { CanAsk (⟦<Shelf as Lent>⟧.asked shelf.old) self.old (⟦<Shelf as Lent>⟧.counted shelf.old) (2 ^ 125) }
         requires few { IsReadSource source }
         requires alone { self.old.batch ≡ None }
         requires fine { AreFine self.old (command.Rewire name.now source) }
         requires free { host_refusal (whole_of (⟦<Shelf as Lent>⟧.asked shelf.old) self.old.world) source ≡ None }
-        ensures steps { (hosts : Hosts) (slacks : List ℕ) → IsSound hosts (⟦<Shelf as Lent>⟧.asked shelf.old) self.old.world →
-            IfOk result (λ es. Steps hosts (⟦<Shelf as Lent>⟧.asked shelf.new) self.new es.items
-            (done (environment hosts slacks) (plain_of (⟦<Shelf as Lent>⟧.asked shelf.old) self.old) (command.Rewire name.now source))) }
-        ensures leaves { (hosts : Hosts) (count : ℕ) → ⟦<Shelf as Lent>⟧.answers hosts shelf.old →
-            IsSound hosts (⟦<Shelf as Lent>⟧.asked shelf.old) self.old.world → OnOk result
-            (Leaves (⟦<Shelf as Lent>⟧.asked shelf.old) (⟦<Shelf as Lent>⟧.asked shelf.new) count self.old self.new) }
-        ensures answers { (hosts : Hosts) → ⟦<Shelf as Lent>⟧.answers hosts shelf.old → OnOk result (⟦<Shelf as Lent>⟧.answers hosts shelf.new) }
-        ensures counted { OnOk result (⟦<Shelf as Lent>⟧.counted shelf.new) }
-        ensures most { OnOk result (most_asked (⟦<Shelf as Lent>⟧.asked shelf.new) ≤ most_asked (⟦<Shelf as Lent>⟧.asked shelf.old)) }
+        ensures did { (slacks : List ℕ) (count : ℕ) → IfOk result (λ es. Did (⟦<Shelf as Lent>⟧.asked shelf.old) (⟦<Shelf as Lent>⟧.asked shelf.new) count self.old self.new
+            (λ hosts. ⟦<Shelf as Lent>⟧.answers hosts shelf.old) (λ hosts. ⟦<Shelf as Lent>⟧.answers hosts shelf.new) (⟦<Shelf as Lent>⟧.counted shelf.new) 0
+            es.items (λ hosts. done (environment hosts slacks) (plain_of (⟦<Shelf as Lent>⟧.asked shelf.old) self.old) (command.Rewire name.now source))) }
         ensures memory { IfErr result (λ e. e ≡ fault.NoMemory) }
     {
         let computed = NodeId::of(self.names.number_of(name));
@@ -116,31 +106,19 @@ impl Machine {
     }
 
     /// Takes a thing away, and before it all that stands under it, the last made first. Cleanups on the way are done; a host formula that
-    /// a computed asks is dropped, and told before. Pages that end are dropped. Beside the clauses of each command that reaches the
-    /// shelf, before it and after it, it asks for rules that are there, since a cleanup may set a cell, and that neither an open batch
-    /// nor the name refuses it.
+    /// a computed asks is dropped, and told before. Pages that end are dropped. A cleanup may set a cell, and so needs the rules.
     pub(crate) fn dispose(
         &mut self,
         shelf: &mut Shelf,
         rules: &[EqualsRule],
         name: &Name,
     ) -> Result<Vec<Entry>, EffectFault>
-        requires ready { IsReady self.old }
-        requires weight { weight self.old.world < 2 ^ 125 }
-        requires agrees { Agrees (⟦<Shelf as Lent>⟧.asked shelf.old) self.old.world }
-        requires counted { ⟦<Shelf as Lent>⟧.counted shelf.old }
-        requires ruled { AreRuled (length rules.now) self.old.world.graph.state.signals }
+        requires can { CanDo (⟦<Shelf as Lent>⟧.asked shelf.old) (length rules.now) self.old (⟦<Shelf as Lent>⟧.counted shelf.old) (2 ^ 125) }
         requires alone { self.old.batch ≡ None }
         requires fine { AreFine self.old (command.Named verb.Dispose name.now) }
-        ensures steps { (hosts : Hosts) → IsSound hosts (⟦<Shelf as Lent>⟧.asked shelf.old) self.old.world →
-            IfOk result (λ es. Steps hosts (⟦<Shelf as Lent>⟧.asked shelf.new) self.new es.items
-            (done (environment hosts (map (λ r. r.slack) rules.now)) (plain_of (⟦<Shelf as Lent>⟧.asked shelf.old) self.old) (command.Named verb.Dispose name.now))) }
-        ensures leaves { (hosts : Hosts) (count : ℕ) → ⟦<Shelf as Lent>⟧.answers hosts shelf.old →
-            IsSound hosts (⟦<Shelf as Lent>⟧.asked shelf.old) self.old.world → OnOk result
-            (Leaves (⟦<Shelf as Lent>⟧.asked shelf.old) (⟦<Shelf as Lent>⟧.asked shelf.new) count self.old self.new) }
-        ensures answers { (hosts : Hosts) → ⟦<Shelf as Lent>⟧.answers hosts shelf.old → OnOk result (⟦<Shelf as Lent>⟧.answers hosts shelf.new) }
-        ensures counted { OnOk result (⟦<Shelf as Lent>⟧.counted shelf.new) }
-        ensures most { OnOk result (most_asked (⟦<Shelf as Lent>⟧.asked shelf.new) ≤ most_asked (⟦<Shelf as Lent>⟧.asked shelf.old)) }
+        ensures did { (count : ℕ) → IfOk result (λ es. Did (⟦<Shelf as Lent>⟧.asked shelf.old) (⟦<Shelf as Lent>⟧.asked shelf.new) count self.old self.new
+            (λ hosts. ⟦<Shelf as Lent>⟧.answers hosts shelf.old) (λ hosts. ⟦<Shelf as Lent>⟧.answers hosts shelf.new) (⟦<Shelf as Lent>⟧.counted shelf.new) 0
+            es.items (λ hosts. done (environment hosts (map (λ r. r.slack) rules.now)) (plain_of (⟦<Shelf as Lent>⟧.asked shelf.old) self.old) (command.Named verb.Dispose name.now))) }
         ensures memory { IfErr result (λ e. e ≡ fault.NoMemory) }
     {
         let Some(thing) = self.names.thing_named(name) else {

@@ -1,11 +1,11 @@
 // Handlers of events are made, and run as one is fired.
-ghost use Rattle.std.specs.Prelude.{◌≡◌, ◌+◌, ◌≤◌, ◌<◌, ◌^◌, ◌++◌, ◌∷◌, ℕ, true, List, [], None, IfOk, IfErr, OnOk, length, map};
-ghost use Rattle.effect_world.specs.Costs.{weight};
-ghost use Rattle.effect_world.specs.Stores.{Agrees, IsSound};
+ghost use Rattle.std.specs.Prelude.{◌≡◌, ◌+◌, ◌<◌, ◌^◌, ◌++◌, ◌∷◌, ℕ, true, List, [], None, IfOk, IfErr, OnOk, length, map};
+ghost use Rattle.effect_world.specs.Stores.{IsSound};
 ghost use Rattle.event_model.specs.Handlers.{fired_on};
 ghost use Rattle.event_model.specs.declared.limits.TheConstants.{MOST_HANDLERS};
 ghost use Rattle.live_cmd.specs.declared.command.Command.TheVariants as command;
 ghost use Rattle.live_core.specs.Consistency.{IsReady, Leaves, Steps};
+ghost use Rattle.live_core.specs.Doing.{CanDo, Did};
 ghost use Rattle.live_core.specs.Views.{plain_of};
 ghost use Rattle.live_model.specs.Handlers.{fired_of};
 ghost use Rattle.live_model.specs.Machine.{done, over_limit, page_at};
@@ -13,9 +13,9 @@ ghost use Rattle.live_model.specs.Names.{number_of};
 ghost use Rattle.live_model.specs.Uses.{is_fit};
 ghost use Rattle.live_pages.specs.Updates.{AreStanding};
 ghost use Rattle.live_pages.specs.Views.{page_of};
-ghost use Rattle.sig_effect.specs.Stores.{environment, AreRuled};
+ghost use Rattle.sig_effect.specs.Stores.{environment};
 ghost use Rattle.sig_effect.specs.declared.errors.EffectFault.TheVariants as fault;
-ghost use Rattle.sig_host.specs.Hosts.{HostPlace, most_asked};
+ghost use Rattle.sig_host.specs.Hosts.{HostPlace};
 ghost use Rattle.signal_model.specs.Recipes.{Hosts};
 ghost use Rattle.tpl_live.specs.Contents.{standing};
 ghost use Rattle.tpl_live.specs.Pages.{page_in, Stands};
@@ -116,8 +116,7 @@ impl Machine {
         Ok(fired)
     }
 
-    /// Runs the handlers that wait for an event at a node of a page, and then those at the nodes around it, from the inside outwards. Its clauses
-    /// are those of each command that reaches the shelf, before it and after it, and one that no batch is open.
+    /// Runs the handlers that wait for an event at a node of a page, and then those at the nodes around it, from the inside outwards.
     pub(crate) fn fire(
         &mut self,
         shelf: &mut Shelf,
@@ -126,23 +125,11 @@ impl Machine {
         node: u64,
         event: &Text,
     ) -> Result<Vec<Entry>, EffectFault>
-        requires ready { IsReady self.old }
+        requires can { CanDo (⟦<Shelf as Lent>⟧.asked shelf.old) (length rules.now) self.old (⟦<Shelf as Lent>⟧.counted shelf.old) (2 ^ 124) }
         requires alone { self.old.batch ≡ None }
-        requires weight { weight self.old.world < 2 ^ 124 }
-        requires agrees { Agrees (⟦<Shelf as Lent>⟧.asked shelf.old) self.old.world }
-        requires ruled { AreRuled (length rules.now) self.old.world.graph.state.signals }
-        requires counted { ⟦<Shelf as Lent>⟧.counted shelf.old }
-        requires room { most_asked (⟦<Shelf as Lent>⟧.asked shelf.old) < 2 ^ 124 }
-        ensures steps { (hosts : Hosts) → ⟦<Shelf as Lent>⟧.answers hosts shelf.old →
-            IsSound hosts (⟦<Shelf as Lent>⟧.asked shelf.old) self.old.world →
-            IfOk result (λ es. Steps hosts (⟦<Shelf as Lent>⟧.asked shelf.new) self.new es.items
-            (done (environment hosts (map (λ r. r.slack) rules.now)) (plain_of (⟦<Shelf as Lent>⟧.asked shelf.old) self.old) (command.Fire page.now node event.now))) }
-        ensures leaves { (hosts : Hosts) (count : ℕ) → ⟦<Shelf as Lent>⟧.answers hosts shelf.old →
-            IsSound hosts (⟦<Shelf as Lent>⟧.asked shelf.old) self.old.world → OnOk result
-            (Leaves (⟦<Shelf as Lent>⟧.asked shelf.old) (⟦<Shelf as Lent>⟧.asked shelf.new) count self.old self.new) }
-        ensures answers { (hosts : Hosts) → ⟦<Shelf as Lent>⟧.answers hosts shelf.old → OnOk result (⟦<Shelf as Lent>⟧.answers hosts shelf.new) }
-        ensures counted { OnOk result (⟦<Shelf as Lent>⟧.counted shelf.new) }
-        ensures most { OnOk result (most_asked (⟦<Shelf as Lent>⟧.asked shelf.new) ≤ most_asked (⟦<Shelf as Lent>⟧.asked shelf.old) + 2 ^ 80) }
+        ensures did { (count : ℕ) → IfOk result (λ es. Did (⟦<Shelf as Lent>⟧.asked shelf.old) (⟦<Shelf as Lent>⟧.asked shelf.new) count self.old self.new
+            (λ hosts. ⟦<Shelf as Lent>⟧.answers hosts shelf.old) (λ hosts. ⟦<Shelf as Lent>⟧.answers hosts shelf.new) (⟦<Shelf as Lent>⟧.counted shelf.new) (2 ^ 80)
+            es.items (λ hosts. done (environment hosts (map (λ r. r.slack) rules.now)) (plain_of (⟦<Shelf as Lent>⟧.asked shelf.old) self.old) (command.Fire page.now node event.now))) }
         ensures memory { IfErr result (λ e. e ≡ fault.NoMemory) }
     {
         let fired = self.fired_at(page, node, event)?;

@@ -1,14 +1,15 @@
 // Commands that aren't refused are done.
-ghost use Rattle.std.specs.Prelude.{◌≡◌, ◌+◌, ◌≤◌, ◌<◌, ◌^◌, ℕ, List, None, IfOk, IfErr, OnOk, length, map};
+ghost use Rattle.std.specs.Prelude.{◌≡◌, ◌^◌, ℕ, List, None, IfOk, IfErr, length, map};
 ghost use Rattle.signal_model.specs.Recipes.{Hosts};
-ghost use Rattle.sig_host.specs.Hosts.{HostPlace, most_asked};
+ghost use Rattle.sig_host.specs.Hosts.{HostPlace};
 ghost use Rattle.sig_effect.specs.declared.errors.EffectFault.TheVariants as fault;
 ghost use Rattle.sig_effect.specs.Stores.{environment, AreNew};
 ghost use Rattle.effect_world.specs.Stores.{IsSound};
 ghost use Rattle.effect_world.specs.Costs.{weight};
 ghost use Rattle.live_cmd.specs.declared.command.Command.TheVariants as command;
 ghost use Rattle.live_model.specs.Machine.{batch_refusal, done, empty, over_limit, place_refusal, row_refusal, unwatch_refusal};
-ghost use Rattle.live_core.specs.Consistency.{AreFine, WorldAgrees, IsReadable, IsReady, Leaves, Steps};
+ghost use Rattle.live_core.specs.Consistency.{AreFine, WorldAgrees, IsReadable, IsReady};
+ghost use Rattle.live_core.specs.Doing.{CanDo, Did};
 ghost use Rattle.live_core.specs.Views.{batch_of, plain_of};
 ghost use Rattle.effect_world.specs.Wholes.{whole_of};
 
@@ -52,8 +53,7 @@ impl Machine {
         })
     }
 
-    // Does what a verb says to a name. Its clauses are those of `perform`, which hands them on, without the checks that a verb with a
-    // name doesn't need.
+    // Does what a verb says to a name.
     fn do_verb(
         &mut self,
         shelf: &mut Shelf,
@@ -61,23 +61,12 @@ impl Machine {
         verb: Verb,
         name: Name,
     ) -> Result<Vec<Entry>, EffectFault>
-        requires ready { IsReady self.old }
-        requires weight { weight self.old.world < 2 ^ 124 }
-        requires holds { WorldAgrees (⟦<Shelf as Lent>⟧.asked shelf.old) (length rules.now) self.old.world }
-        requires counted { ⟦<Shelf as Lent>⟧.counted shelf.old }
-        requires most { most_asked (⟦<Shelf as Lent>⟧.asked shelf.old) < 2 ^ 124 }
+        requires can { CanDo (⟦<Shelf as Lent>⟧.asked shelf.old) (length rules.now) self.old (⟦<Shelf as Lent>⟧.counted shelf.old) (2 ^ 124) }
         requires fine { AreFine self.old (command.Named verb name) }
         requires batch { batch_refusal (batch_of self.old.batch) (command.Named verb name) ≡ None }
-        ensures steps { (hosts : Hosts) → ⟦<Shelf as Lent>⟧.answers hosts shelf.old →
-            IsSound hosts (⟦<Shelf as Lent>⟧.asked shelf.old) self.old.world →
-            IfOk result (λ es. Steps hosts (⟦<Shelf as Lent>⟧.asked shelf.new) self.new es.items
-            (done (environment hosts (map (λ r. r.slack) rules.now)) (plain_of (⟦<Shelf as Lent>⟧.asked shelf.old) self.old) (command.Named verb name))) }
-        ensures leaves { (hosts : Hosts) → ⟦<Shelf as Lent>⟧.answers hosts shelf.old →
-            IsSound hosts (⟦<Shelf as Lent>⟧.asked shelf.old) self.old.world → OnOk result
-            (Leaves (⟦<Shelf as Lent>⟧.asked shelf.old) (⟦<Shelf as Lent>⟧.asked shelf.new) (length rules.now) self.old self.new) }
-        ensures answers { (hosts : Hosts) → ⟦<Shelf as Lent>⟧.answers hosts shelf.old → OnOk result (⟦<Shelf as Lent>⟧.answers hosts shelf.new) }
-        ensures counted { OnOk result (⟦<Shelf as Lent>⟧.counted shelf.new) }
-        ensures most { OnOk result (most_asked (⟦<Shelf as Lent>⟧.asked shelf.new) ≤ most_asked (⟦<Shelf as Lent>⟧.asked shelf.old) + 2 ^ 80) }
+        ensures did { IfOk result (λ es. Did (⟦<Shelf as Lent>⟧.asked shelf.old) (⟦<Shelf as Lent>⟧.asked shelf.new) (length rules.now) self.old self.new
+            (λ hosts. ⟦<Shelf as Lent>⟧.answers hosts shelf.old) (λ hosts. ⟦<Shelf as Lent>⟧.answers hosts shelf.new) (⟦<Shelf as Lent>⟧.counted shelf.new) (2 ^ 80)
+            es.items (λ hosts. done (environment hosts (map (λ r. r.slack) rules.now)) (plain_of (⟦<Shelf as Lent>⟧.asked shelf.old) self.old) (command.Named verb name))) }
         ensures memory { IfErr result (λ e. e ≡ fault.NoMemory) }
     {
         match verb {
@@ -92,29 +81,18 @@ impl Machine {
         }
     }
 
-    // Does a command of one word. Its clauses are those of `perform` too; as there is no name, the batch is the only check that is left.
+    // Does a command of one word. As there is no name, the batch is the only check that is left.
     fn do_bare(
         &mut self,
         shelf: &mut Shelf,
         rules: &[EqualsRule],
         bare: Bare,
     ) -> Result<Vec<Entry>, EffectFault>
-        requires ready { IsReady self.old }
-        requires weight { weight self.old.world < 2 ^ 124 }
-        requires holds { WorldAgrees (⟦<Shelf as Lent>⟧.asked shelf.old) (length rules.now) self.old.world }
-        requires counted { ⟦<Shelf as Lent>⟧.counted shelf.old }
-        requires most { most_asked (⟦<Shelf as Lent>⟧.asked shelf.old) < 2 ^ 124 }
+        requires can { CanDo (⟦<Shelf as Lent>⟧.asked shelf.old) (length rules.now) self.old (⟦<Shelf as Lent>⟧.counted shelf.old) (2 ^ 124) }
         requires batch { batch_refusal (batch_of self.old.batch) (command.Bare bare) ≡ None }
-        ensures steps { (hosts : Hosts) → ⟦<Shelf as Lent>⟧.answers hosts shelf.old →
-            IsSound hosts (⟦<Shelf as Lent>⟧.asked shelf.old) self.old.world →
-            IfOk result (λ es. Steps hosts (⟦<Shelf as Lent>⟧.asked shelf.new) self.new es.items
-            (done (environment hosts (map (λ r. r.slack) rules.now)) (plain_of (⟦<Shelf as Lent>⟧.asked shelf.old) self.old) (command.Bare bare))) }
-        ensures leaves { (hosts : Hosts) → ⟦<Shelf as Lent>⟧.answers hosts shelf.old →
-            IsSound hosts (⟦<Shelf as Lent>⟧.asked shelf.old) self.old.world → OnOk result
-            (Leaves (⟦<Shelf as Lent>⟧.asked shelf.old) (⟦<Shelf as Lent>⟧.asked shelf.new) (length rules.now) self.old self.new) }
-        ensures answers { (hosts : Hosts) → ⟦<Shelf as Lent>⟧.answers hosts shelf.old → OnOk result (⟦<Shelf as Lent>⟧.answers hosts shelf.new) }
-        ensures counted { OnOk result (⟦<Shelf as Lent>⟧.counted shelf.new) }
-        ensures most { OnOk result (most_asked (⟦<Shelf as Lent>⟧.asked shelf.new) ≤ most_asked (⟦<Shelf as Lent>⟧.asked shelf.old) + 2 ^ 80) }
+        ensures did { IfOk result (λ es. Did (⟦<Shelf as Lent>⟧.asked shelf.old) (⟦<Shelf as Lent>⟧.asked shelf.new) (length rules.now) self.old self.new
+            (λ hosts. ⟦<Shelf as Lent>⟧.answers hosts shelf.old) (λ hosts. ⟦<Shelf as Lent>⟧.answers hosts shelf.new) (⟦<Shelf as Lent>⟧.counted shelf.new) (2 ^ 80)
+            es.items (λ hosts. done (environment hosts (map (λ r. r.slack) rules.now)) (plain_of (⟦<Shelf as Lent>⟧.asked shelf.old) self.old) (command.Bare bare))) }
         ensures memory { IfErr result (λ e. e ≡ fault.NoMemory) }
     {
         match bare {
@@ -127,8 +105,7 @@ impl Machine {
     }
 
     /// Does a command that isn't refused. Each check that a command passed is a clause of its own, as each kind of command needs only
-    /// some of them; what machine, shelf and counters have to be, and what they are afterwards, are asked for and told apart for the same
-    /// reason.
+    /// some of them.
     ///
     /// # Errors
     ///
@@ -139,11 +116,7 @@ impl Machine {
         rules: &[EqualsRule],
         command: Command,
     ) -> Result<Vec<Entry>, EffectFault>
-        requires ready { IsReady self.old }
-        requires weight { weight self.old.world < 2 ^ 124 }
-        requires holds { WorldAgrees (⟦<Shelf as Lent>⟧.asked shelf.old) (length rules.now) self.old.world }
-        requires counted { ⟦<Shelf as Lent>⟧.counted shelf.old }
-        requires most { most_asked (⟦<Shelf as Lent>⟧.asked shelf.old) < 2 ^ 124 }
+        requires can { CanDo (⟦<Shelf as Lent>⟧.asked shelf.old) (length rules.now) self.old (⟦<Shelf as Lent>⟧.counted shelf.old) (2 ^ 124) }
         requires batch { batch_refusal (batch_of self.old.batch) command ≡ None }
         requires fine { AreFine self.old command }
         requires places { place_refusal (map (λ r. r.slack) rules.now) (whole_of (⟦<Shelf as Lent>⟧.asked shelf.old) self.old.world) command ≡ None }
@@ -151,16 +124,9 @@ impl Machine {
         requires rows { row_refusal (plain_of (⟦<Shelf as Lent>⟧.asked shelf.old) self.old) command ≡ None }
         requires room { over_limit (plain_of (⟦<Shelf as Lent>⟧.asked shelf.old) self.old) command ≡ None }
         requires watched { unwatch_refusal (plain_of (⟦<Shelf as Lent>⟧.asked shelf.old) self.old) command ≡ None }
-        ensures steps { (hosts : Hosts) → ⟦<Shelf as Lent>⟧.answers hosts shelf.old →
-            IsSound hosts (⟦<Shelf as Lent>⟧.asked shelf.old) self.old.world →
-            IfOk result (λ es. Steps hosts (⟦<Shelf as Lent>⟧.asked shelf.new) self.new es.items
-            (done (environment hosts (map (λ r. r.slack) rules.now)) (plain_of (⟦<Shelf as Lent>⟧.asked shelf.old) self.old) command)) }
-        ensures leaves { (hosts : Hosts) → ⟦<Shelf as Lent>⟧.answers hosts shelf.old →
-            IsSound hosts (⟦<Shelf as Lent>⟧.asked shelf.old) self.old.world → OnOk result
-            (Leaves (⟦<Shelf as Lent>⟧.asked shelf.old) (⟦<Shelf as Lent>⟧.asked shelf.new) (length rules.now) self.old self.new) }
-        ensures answers { (hosts : Hosts) → ⟦<Shelf as Lent>⟧.answers hosts shelf.old → OnOk result (⟦<Shelf as Lent>⟧.answers hosts shelf.new) }
-        ensures counted { OnOk result (⟦<Shelf as Lent>⟧.counted shelf.new) }
-        ensures most { OnOk result (most_asked (⟦<Shelf as Lent>⟧.asked shelf.new) ≤ most_asked (⟦<Shelf as Lent>⟧.asked shelf.old) + 2 ^ 80) }
+        ensures did { IfOk result (λ es. Did (⟦<Shelf as Lent>⟧.asked shelf.old) (⟦<Shelf as Lent>⟧.asked shelf.new) (length rules.now) self.old self.new
+            (λ hosts. ⟦<Shelf as Lent>⟧.answers hosts shelf.old) (λ hosts. ⟦<Shelf as Lent>⟧.answers hosts shelf.new) (⟦<Shelf as Lent>⟧.counted shelf.new) (2 ^ 80)
+            es.items (λ hosts. done (environment hosts (map (λ r. r.slack) rules.now)) (plain_of (⟦<Shelf as Lent>⟧.asked shelf.old) self.old) command)) }
         ensures memory { IfErr result (λ e. e ≡ fault.NoMemory) }
     {
         match command {

@@ -1,21 +1,20 @@
 // Pages are mounted, and a flush runs effects and brings the pages up to date.
-ghost use Rattle.std.specs.Prelude.{◌≡◌, ◌+◌, ◌≤◌, ◌<◌, ◌^◌, ◌++◌, ◌∷◌, [], ℕ, List, None, IfOk, IfErr, OnOk, length, map};
+ghost use Rattle.std.specs.Prelude.{◌≡◌, ◌+◌, ◌≤◌, ◌^◌, ◌++◌, ◌∷◌, [], ℕ, List, None, IfOk, IfErr, OnOk, length, map};
 ghost use Rattle.signal_model.specs.Recipes.{Hosts};
 ghost use Rattle.sig_base.specs.declared.limits.TheConstants.{MOST_PAGES};
-ghost use Rattle.sig_host.specs.Hosts.{most_asked};
 ghost use Rattle.sig_effect.specs.declared.errors.EffectFault.TheVariants as fault;
-ghost use Rattle.sig_effect.specs.Stores.{environment, AreRuled};
-ghost use Rattle.effect_world.specs.Stores.{Agrees, IsSound};
-ghost use Rattle.effect_world.specs.Costs.{weight};
+ghost use Rattle.sig_effect.specs.Stores.{environment};
+ghost use Rattle.effect_world.specs.Stores.{IsSound};
 ghost use Rattle.live_cmd.specs.declared.command.Bare.TheVariants as bares;
 ghost use Rattle.live_cmd.specs.declared.command.Command.TheVariants as command;
 ghost use Rattle.live_model.specs.Machine.{after_turns, done, over_limit};
 ghost use Rattle.live_model.specs.declared.names.Kind.TheVariants as kind;
 ghost use Rattle.live_model.specs.Names.{meaning_of};
-ghost use Rattle.live_pages.specs.Updates.{AreShown};
+ghost use Rattle.live_pages.specs.Updates.{AreShown, CanSettle, Settled};
 ghost use Rattle.live_pages.specs.Views.{template_of};
 ghost use Rattle.live_labels.specs.Views.{labels_of};
 ghost use Rattle.live_core.specs.Consistency.{AreFine, IsReady, Leaves, Steps};
+ghost use Rattle.live_core.specs.Doing.{CanAsk, CanDo, Did};
 ghost use Rattle.live_core.specs.Views.{plain_of};
 
 use crate::faults::make_page;
@@ -56,8 +55,7 @@ impl Machine {
         Ok(())
     }
 
-    /// Makes a page of a template, and tells it and the runs on the way. Beside the clauses of each command that reaches the shelf, before it
-    /// and after it, it asks that the names are fine and that no limit refuses it, which are two checks.
+    /// Makes a page of a template, and tells it and the runs on the way.
     pub(crate) fn mount(
         &mut self,
         shelf: &mut Shelf,
@@ -65,23 +63,12 @@ impl Machine {
         template: &Name,
         inside: &Option<Name>,
     ) -> Result<Vec<Entry>, EffectFault>
-        requires ready { IsReady self.old }
-        requires weight { weight self.old.world < 2 ^ 125 }
-        requires agrees { Agrees (⟦<Shelf as Lent>⟧.asked shelf.old) self.old.world }
-        requires counted { ⟦<Shelf as Lent>⟧.counted shelf.old }
-        requires most { most_asked (⟦<Shelf as Lent>⟧.asked shelf.old) < 2 ^ 125 }
+        requires can { CanAsk (⟦<Shelf as Lent>⟧.asked shelf.old) self.old (⟦<Shelf as Lent>⟧.counted shelf.old) (2 ^ 125) }
         requires fine { AreFine self.old (command.Mount name template.now inside.now) }
         requires room { over_limit (plain_of [] self.old) (command.Mount name template.now inside.now) ≡ None }
-        ensures steps { (hosts : Hosts) (slacks : List ℕ) → ⟦<Shelf as Lent>⟧.answers hosts shelf.old →
-            IsSound hosts (⟦<Shelf as Lent>⟧.asked shelf.old) self.old.world →
-            IfOk result (λ es. Steps hosts (⟦<Shelf as Lent>⟧.asked shelf.new) self.new es.items
-            (done (environment hosts slacks) (plain_of (⟦<Shelf as Lent>⟧.asked shelf.old) self.old) (command.Mount name template.now inside.now))) }
-        ensures leaves { (hosts : Hosts) (count : ℕ) → ⟦<Shelf as Lent>⟧.answers hosts shelf.old →
-            IsSound hosts (⟦<Shelf as Lent>⟧.asked shelf.old) self.old.world → OnOk result
-            (Leaves (⟦<Shelf as Lent>⟧.asked shelf.old) (⟦<Shelf as Lent>⟧.asked shelf.new) count self.old self.new) }
-        ensures answers { (hosts : Hosts) → ⟦<Shelf as Lent>⟧.answers hosts shelf.old → OnOk result (⟦<Shelf as Lent>⟧.answers hosts shelf.new) }
-        ensures counted { OnOk result (⟦<Shelf as Lent>⟧.counted shelf.new) }
-        ensures most { OnOk result (most_asked (⟦<Shelf as Lent>⟧.asked shelf.new) ≤ most_asked (⟦<Shelf as Lent>⟧.asked shelf.old) + 2 ^ 80) }
+        ensures did { (slacks : List ℕ) (count : ℕ) → IfOk result (λ es. Did (⟦<Shelf as Lent>⟧.asked shelf.old) (⟦<Shelf as Lent>⟧.asked shelf.new) count self.old self.new
+            (λ hosts. ⟦<Shelf as Lent>⟧.answers hosts shelf.old) (λ hosts. ⟦<Shelf as Lent>⟧.answers hosts shelf.new) (⟦<Shelf as Lent>⟧.counted shelf.new) (2 ^ 80)
+            es.items (λ hosts. done (environment hosts slacks) (plain_of (⟦<Shelf as Lent>⟧.asked shelf.old) self.old) (command.Mount name template.now inside.now))) }
         ensures memory { IfErr result (λ e. e ≡ fault.NoMemory) }
     {
         let _count = self.labels.pages.len();
@@ -104,7 +91,7 @@ impl Machine {
     }
 
     // After the turns of a flush the pages are brought up to date, unless it is refused. It asks for the parts of a machine that is ready
-    // which the turns have left as they were, and gives the clauses of each command that reaches the shelf.
+    // which the turns have left as they were.
     fn end_flush(
         &mut self,
         shelf: &mut Shelf,
@@ -113,10 +100,7 @@ impl Machine {
     ) -> Result<Vec<Entry>, EffectFault>
         requires shown { AreShown (map template_of self.old.templates.items) self.old.pages.items }
         requires few { length self.old.pages.items ≤ MOST_PAGES }
-        requires weight { weight self.old.world < 2 ^ 125 }
-        requires agrees { Agrees (⟦<Shelf as Lent>⟧.asked shelf.old) self.old.world }
-        requires counted { ⟦<Shelf as Lent>⟧.counted shelf.old }
-        requires room { most_asked (⟦<Shelf as Lent>⟧.asked shelf.old) < 2 ^ 125 }
+        requires can { CanSettle (⟦<Shelf as Lent>⟧.asked shelf.old) self.old.world (⟦<Shelf as Lent>⟧.counted shelf.old) (2 ^ 125) }
         ensures steps { (hosts : Hosts) (slacks : List ℕ) → ⟦<Shelf as Lent>⟧.answers hosts shelf.old →
             IsSound hosts (⟦<Shelf as Lent>⟧.asked shelf.old) self.old.world →
             IfOk result (λ es. Steps hosts (⟦<Shelf as Lent>⟧.asked shelf.new) self.new es.items
@@ -124,10 +108,8 @@ impl Machine {
         ensures leaves { (hosts : Hosts) (count : ℕ) → IsReady self.old → ⟦<Shelf as Lent>⟧.answers hosts shelf.old →
             IsSound hosts (⟦<Shelf as Lent>⟧.asked shelf.old) self.old.world → OnOk result
             (Leaves (⟦<Shelf as Lent>⟧.asked shelf.old) (⟦<Shelf as Lent>⟧.asked shelf.new) count self.old self.new) }
-        ensures weight { OnOk result (weight self.new.world ≤ weight self.old.world + 2 ^ 68) }
-        ensures answers { (hosts : Hosts) → ⟦<Shelf as Lent>⟧.answers hosts shelf.old → OnOk result (⟦<Shelf as Lent>⟧.answers hosts shelf.new) }
-        ensures counted { OnOk result (⟦<Shelf as Lent>⟧.counted shelf.new) }
-        ensures most { OnOk result (most_asked (⟦<Shelf as Lent>⟧.asked shelf.new) ≤ most_asked (⟦<Shelf as Lent>⟧.asked shelf.old) + 2 ^ 75) }
+        ensures settled { OnOk result (Settled (⟦<Shelf as Lent>⟧.asked shelf.old) (⟦<Shelf as Lent>⟧.asked shelf.new) self.old.world self.new.world
+            (λ hosts. ⟦<Shelf as Lent>⟧.answers hosts shelf.old) (λ hosts. ⟦<Shelf as Lent>⟧.answers hosts shelf.new) (⟦<Shelf as Lent>⟧.counted shelf.new) (2 ^ 68) (2 ^ 75)) }
         ensures memory { IfErr result (λ e. e ≡ fault.NoMemory) }
     {
         let mut told = told;
@@ -148,30 +130,17 @@ impl Machine {
     }
 
     /// Runs the effects that are due, in turns, and then brings the pages that live up to date. An effect that is due after the last turn
-    /// makes it refused, and the pages are left as they were. What machine, rules, shelf and counters have to be is asked for apart; what
-    /// it comes to and that another command may follow are told apart from what is left of the shelf, which stands beside the machine.
+    /// makes it refused, and the pages are left as they were.
     pub(crate) fn flush(
         &mut self,
         shelf: &mut Shelf,
         rules: &[EqualsRule],
     ) -> Result<Vec<Entry>, EffectFault>
-        requires ready { IsReady self.old }
+        requires can { CanDo (⟦<Shelf as Lent>⟧.asked shelf.old) (length rules.now) self.old (⟦<Shelf as Lent>⟧.counted shelf.old) (2 ^ 124) }
         requires alone { self.old.batch ≡ None }
-        requires weight { weight self.old.world < 2 ^ 124 }
-        requires agrees { Agrees (⟦<Shelf as Lent>⟧.asked shelf.old) self.old.world }
-        requires ruled { AreRuled (length rules.now) self.old.world.graph.state.signals }
-        requires counted { ⟦<Shelf as Lent>⟧.counted shelf.old }
-        requires room { most_asked (⟦<Shelf as Lent>⟧.asked shelf.old) < 2 ^ 124 }
-        ensures steps { (hosts : Hosts) → ⟦<Shelf as Lent>⟧.answers hosts shelf.old →
-            IsSound hosts (⟦<Shelf as Lent>⟧.asked shelf.old) self.old.world →
-            IfOk result (λ es. Steps hosts (⟦<Shelf as Lent>⟧.asked shelf.new) self.new es.items
-            (done (environment hosts (map (λ r. r.slack) rules.now)) (plain_of (⟦<Shelf as Lent>⟧.asked shelf.old) self.old) (command.Bare bares.Flush))) }
-        ensures leaves { (hosts : Hosts) → ⟦<Shelf as Lent>⟧.answers hosts shelf.old →
-            IsSound hosts (⟦<Shelf as Lent>⟧.asked shelf.old) self.old.world → OnOk result
-            (Leaves (⟦<Shelf as Lent>⟧.asked shelf.old) (⟦<Shelf as Lent>⟧.asked shelf.new) (length rules.now) self.old self.new) }
-        ensures answers { (hosts : Hosts) → ⟦<Shelf as Lent>⟧.answers hosts shelf.old → OnOk result (⟦<Shelf as Lent>⟧.answers hosts shelf.new) }
-        ensures counted { OnOk result (⟦<Shelf as Lent>⟧.counted shelf.new) }
-        ensures most { OnOk result (most_asked (⟦<Shelf as Lent>⟧.asked shelf.new) ≤ most_asked (⟦<Shelf as Lent>⟧.asked shelf.old) + 2 ^ 80) }
+        ensures did { IfOk result (λ es. Did (⟦<Shelf as Lent>⟧.asked shelf.old) (⟦<Shelf as Lent>⟧.asked shelf.new) (length rules.now) self.old self.new
+            (λ hosts. ⟦<Shelf as Lent>⟧.answers hosts shelf.old) (λ hosts. ⟦<Shelf as Lent>⟧.answers hosts shelf.new) (⟦<Shelf as Lent>⟧.counted shelf.new) (2 ^ 80)
+            es.items (λ hosts. done (environment hosts (map (λ r. r.slack) rules.now)) (plain_of (⟦<Shelf as Lent>⟧.asked shelf.old) self.old) (command.Bare bares.Flush))) }
         ensures memory { IfErr result (λ e. e ≡ fault.NoMemory) }
     {
         let mut events = Vec::new(self.alloc);

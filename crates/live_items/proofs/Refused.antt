@@ -7,6 +7,7 @@ use Rattle.effect_model.specs.Worlds.{Environment}
 use Rattle.effect_world.specs.declared.world.World.{World}
 use Rattle.effect_world.specs.Wholes.{whole_of}
 use Rattle.sig_host.specs.Hosts.{HostPlace}
+use Rattle.sig_effect.specs.Stores.{environment}
 use Rattle.live_cmd.specs.declared.command.Command.{Command}
 use Rattle.live_cmd.specs.declared.command.Command.TheVariants as command
 use Rattle.live_cmd.specs.declared.command.Item.TheVariants as item
@@ -24,6 +25,7 @@ use Rattle.live_model.specs.Machine as plain
 use Rattle.live_model.specs.Machine.{batch_refusal, body_refusal, done, later_refusal, name_refusal, over_limit, place_refusal, refusal_of, refused, row_refusal, step, unwatch_refusal}
 use Rattle.live_core.specs.declared.machine.Machine.{Machine}
 use Rattle.live_core.specs.Consistency.{AreFine, Steps}
+use Rattle.live_core.specs.Doing.{Did}
 use Rattle.live_core.specs.Views.{plain_of}
 use Rattle.live_core.proofs.Shared.{neither}
 
@@ -125,7 +127,20 @@ unrefused_last slacks m c none =
     neither (over_limit m c) (unwatch_refusal m c) (neither (row_refusal m c) (option_or (over_limit m c) (unwatch_refusal m c)) behind.1).1
 
 -- what isn't refused is done
-pub done_so : (hosts : Hosts) (later : List HostPlace) (new : Machine) (entries : List Entry) (env : Environment) (m : plain.Machine) (c : Command) →
+done_so : (hosts : Hosts) (later : List HostPlace) (new : Machine) (entries : List Entry) (env : Environment) (m : plain.Machine) (c : Command) →
     refusal_of env.slacks m c ≡ None → Steps hosts later new entries (done env m c) → Steps hosts later new entries (step env m (item.Do c))
 done_so hosts later new entries env m c none s =
     subst (λ (o : Option Refusal). Steps hosts later new entries (option_map_or (refused m) o (done env m c))) (sym none) s
+
+-- whatever the hosts
+pub did_so : (asked later : List HostPlace) (count : ℕ) (old new : Machine) (before after : Hosts → Type 0) (counted : Type 0) (asks : ℕ) (entries : List Entry)
+    (slacks : List ℕ) (m : plain.Machine) (c : Command) → refusal_of slacks m c ≡ None →
+    Did asked later count old new before after counted asks entries (λ hosts. done (environment hosts slacks) m c) →
+    Did asked later count old new before after counted asks entries (λ hosts. step (environment hosts slacks) m (item.Do c))
+did_so asked later count old new before after counted asks entries slacks m c none d = record {
+  steps = λ hosts all sound. done_so hosts later new entries (environment hosts slacks) m c none (d.steps hosts all sound);
+  leaves = d.leaves;
+  answers = d.answers;
+  counted = d.counted;
+  most = d.most;
+}

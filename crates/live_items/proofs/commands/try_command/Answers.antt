@@ -1,10 +1,9 @@
 use Rattle.std.proofs.Common.{◌∙◌, List, is_some, map, sym}
 use Rattle.sig_host.specs.Hosts.{HostPlace}
-use Rattle.sig_effect.specs.Stores.{environment}
 use Rattle.live_pages.specs.Views.{template_of}
 use Rattle.live_pages.proofs.Shared.{all_standing}
 use Rattle.live_core.specs.Views.{plain_of}
-use Rattle.live_items.proofs.Refused.{done_so, fine_here, unrefused_batch, unrefused_last, unrefused_names, unrefused_rows}
+use Rattle.live_items.proofs.Refused.{did_so, fine_here, unrefused_batch, unrefused_last, unrefused_names, unrefused_rows}
 use Rattle.live_items.proofs.commands.try_command.Goals as goal
 
 pub perform-requires-clause-fine : goal.perform-requires-clause-fine
@@ -38,12 +37,14 @@ perform-requires-clause-watched g c =
     let why = rw c.in-Ok.is at c.refusal_of.ensures in
     (unrefused_last (map (λ r. r.slack) c.args.rules.now) (plain_of asked c.args.machine.now) c.args.command (sym why ∙ c.in_default-refusal.is)).1
 
-pub returns-in-Ok-perform-clause-steps : goal.returns-in-Ok-perform-clause-steps
-returns-in-Ok-perform-clause-steps g c = λ hosts all sound.
+pub returns-in-Ok-perform : goal.returns-in-Ok-perform
+returns-in-Ok-perform g c =
     let why = rw c.in-Ok.is at c.refusal_of.ensures in
-    done_so hosts _ _ _ (environment hosts (map (λ r. r.slack) c.args.rules.now)) (plain_of _ c.args.machine.now) c.args.command
-    (sym why ∙ c.in_default-refusal.is) (rw c.in-Ok-perform.is at c.perform.ensures.steps hosts all sound)
+    record {
+      did = did_so _ _ _ _ _ _ _ _ _ _ (map (λ r. r.slack) c.args.rules.now) (plain_of _ c.args.machine.now) c.args.command
+          (sym why ∙ c.in_default-refusal.is) (rw c.in-Ok-perform.is at c.perform.ensures.did);
+    }
 
 pub refusal_of-requires : goal.refusal_of-requires
 refusal_of-requires g c =
-    let m = c.args.machine.now in all_standing (map template_of m.templates.items) m.pages.items c.requires.ready.shown
+    let m = c.args.machine.now in all_standing (map template_of m.templates.items) m.pages.items c.requires.can.ready.shown

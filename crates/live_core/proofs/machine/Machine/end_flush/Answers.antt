@@ -36,11 +36,16 @@ returns-clause-leaves g c = λ hosts count ready all sound.
       weight = let a = s.worn in let b = ap (λ t. t.effects_made) s.stays.tables in omega (arith, a, b);
     }
 
-pub bring_all_up-requires-clause-can : goal.bring_all_up-requires-clause-can
-bring_all_up-requires-clause-can g c =
-    let w = c.requires.weight in
-    let r = c.requires.room in
-    record { agrees = c.requires.agrees; counted = c.requires.counted; worn = omega (arith, w); room = omega (arith, r) }
-
 pub bring_all_up-requires-clause-stand : goal.bring_all_up-requires-clause-stand
 bring_all_up-requires-clause-stand g c = all_standing (map template_of c.args.self.now.templates.items) c.args.self.now.pages.items c.requires.shown
+
+pub returns-then-refused-clause-settled : goal.returns-then-refused-clause-settled
+returns-then-refused-clause-settled g c = record {
+  stays = record { signals = refl; given = refl; watchers = refl; tables = refl };
+  agrees = c.requires.can.agrees;
+  sound = λ hosts all sound. sound;
+  answers = λ hosts all. all;
+  counted = c.requires.can.counted;
+  worn = omega arith;
+  most = omega arith;
+}

@@ -15,84 +15,81 @@ use Rattle.live_core.proofs.Commands.{acts_steps, leaves_ended, pages_steps, sta
 use Rattle.live_core.proofs.Mounts.{flush_steps}
 use Rattle.live_core.proofs.machine.Machine.flush.Goals as goal
 
-pub returns-clause-steps : goal.returns-clause-steps
-returns-clause-steps g c = λ hosts all sound.
-    let m = c.args.self.now in
-    let env = environment hosts (map (λ r. r.slack) c.args.rules.now) in
-    let e = c.in_ok-end.ensures in
-    let t = c.in_ok-told.ensures in
-    let said = record m { world = c.flush.new.world; labels = c.tell_all.new.labels; journal = c.tell_all.new.journal } in
-    let middle = record said { pages = c.keep_live.new.pages } in
-    let act : told.World → told.World = λ w. (flush env w).world in
-    let done = acts_steps hosts _ _ m c.flush.new.world c.tell_all.new.labels c.tell_all.new.journal c.new-events.result.items c.flush.new.events.items act act c.in_ok-told.told.items
-    c.new-events.ensures.items (e.done.does hosts all sound) refl
-    (tells_by m.labels c.tell_all.new.labels m.journal c.tell_all.new.journal c.flush.new.events.items _ c.in_ok-told.told.items c.deref.ensures.value t.entries t.labels t.noted t.names) in
-    let paged = pages_steps hosts _ said middle c.in_ok-told.told.items _ done refl
-    (c.keep_live.ensures ∙ ap (λ ns. filter (λ p. is_in p.number ns) m.pages.items) c.deref-2.ensures.value) in
-    let last = c.in_ok-told-2.ensures.steps hosts (map (λ r. r.slack) c.args.rules.now) (e.done.answers hosts all) paged.sound in
-    flush_steps hosts env _ _ _ m middle c.end_flush.new.self c.in_ok-told.told.items c.in_ok-told-2.told.items c.in_ok-end.end.refused paged (e.ends hosts all sound).1 last
-
-pub returns-clause-leaves : goal.returns-clause-leaves
-returns-clause-leaves g c = λ hosts all sound.
-    let m = c.args.self.now in
-    let env = environment hosts (map (λ r. r.slack) c.args.rules.now) in
-    let e = c.in_ok-end.ensures in
-    let middle = record m { world = c.flush.new.world; labels = c.tell_all.new.labels; journal = c.tell_all.new.journal; pages = c.keep_live.new.pages } in
-    let d = e.done.does hosts all sound in
-    let before = ap length c.new-events.ensures.items in
-    let small = c.flush.new.events.small in
-    let heavy = e.spent.weight in
-    let first = leaves_ended _ _ (length c.args.rules.now) m middle c.requires.ready (record { names = refl; templates = refl; handlers = refl; scripts = refl; labels = c.in_ok-told.ensures.names })
-    (stays_by _ _ m.world c.flush.new.world (λ w. (flush env w).world) d.whole (flushes_keep_counts env) (flushes_keep_kinds env))
-    (c.keep_live.ensures ∙ ap (λ ns. filter (λ p. is_in p.number ns) m.pages.items) c.deref-2.ensures.value)
-    (roomy_none c.flush.new.world.graph.state.signals m.batch c.requires.alone) (λ a. e.done.agrees) (λ r. e.done.rules _ r)
-    (omega (arith, heavy, before, small)) in
-    let last = c.in_ok-told-2.ensures.leaves hosts (length c.args.rules.now) first.ready (e.done.answers hosts all) d.sound in
-    let more = c.in_ok-told-2.ensures.weight in
-    record { ready = last.ready; holds = λ h. last.holds (first.holds h); weight = omega (arith, heavy, before, small, more) }
-
 pub flush-requires-clause-can : goal.flush-requires-clause-can
 flush-requires-clause-can g c =
-    let w = c.requires.weight in
-    let r = c.requires.room in
-    record { agrees = c.requires.agrees; weight = omega (arith, w); room = omega (arith, r) }
+    let w = c.requires.can.weight in
+    let r = c.requires.can.most in
+    record { agrees = c.requires.can.holds.agrees; weight = omega (arith, w); room = omega (arith, r) }
 
-pub end_flush-requires-clause-weight : goal.end_flush-requires-clause-weight
-end_flush-requires-clause-weight g c =
+pub end_flush-requires-clause-can : goal.end_flush-requires-clause-can
+end_flush-requires-clause-can g c =
     let heavy = c.in_ok-end.ensures.spent.weight in
+    let asks = c.in_ok-end.ensures.spent.most in
     let before = ap length c.new-events.ensures.items in
     let small = c.flush.new.events.small in
-    let w = c.requires.weight in
-    omega (arith, heavy, before, small, w)
-
-pub end_flush-requires-clause-room : goal.end_flush-requires-clause-room
-end_flush-requires-clause-room g c =
-    let heavy = c.in_ok-end.ensures.spent.most in
-    let before = ap length c.new-events.ensures.items in
-    let small = c.flush.new.events.small in
-    let r = c.requires.room in
-    omega (arith, heavy, before, small, r)
-
-pub returns-clause-most : goal.returns-clause-most
-returns-clause-most g c =
-    let heavy = c.in_ok-end.ensures.spent.most in
-    let before = ap length c.new-events.ensures.items in
-    let small = c.flush.new.events.small in
-    let more = c.in_ok-told-2.ensures.most in
-    omega (arith, heavy, before, small, more)
-
-pub returns-clause-answers : goal.returns-clause-answers
-returns-clause-answers g c = λ hosts all. c.in_ok-told-2.ensures.answers hosts (c.in_ok-end.ensures.done.answers hosts all)
+    let w = c.requires.can.weight in
+    let r = c.requires.can.most in
+    record {
+      agrees = c.in_ok-end.ensures.done.agrees;
+      counted = c.in_ok-end.ensures.counted;
+      worn = omega (arith, heavy, before, small, w);
+      room = omega (arith, asks, before, small, r);
+    }
 
 pub end_flush-requires-clause-shown : goal.end_flush-requires-clause-shown
 end_flush-requires-clause-shown g c =
     let m = c.args.self.now in
     shown_filtered (map template_of m.templates.items) (λ (p : Mounted). is_in p.number c.flush.new.world.tables.pages.items) m.pages.items c.keep_live.new.pages.items
-    (c.keep_live.ensures ∙ ap (λ ns. filter (λ p. is_in p.number ns) m.pages.items) c.deref-2.ensures.value) c.requires.ready.shown
+    (c.keep_live.ensures ∙ ap (λ ns. filter (λ p. is_in p.number ns) m.pages.items) c.deref-2.ensures.value) c.requires.can.ready.shown
 
 pub end_flush-requires-clause-few : goal.end_flush-requires-clause-few
 end_flush-requires-clause-few g c =
     let m = c.args.self.now in
     let a = fewer (λ (p : Mounted). is_in p.number c.deref-2.result.now) m.pages.items in
-    let b = c.requires.ready.pages.few in
+    let b = c.requires.can.ready.pages.few in
     subst (λ (ps : List Mounted). length ps ≤ MOST_PAGES) (sym c.keep_live.ensures) (omega (arith, a, b))
+
+pub returns-clause-did : goal.returns-clause-did
+returns-clause-did g c = record {
+  steps = λ hosts all sound.
+      let m = c.args.self.now in
+      let env = environment hosts (map (λ r. r.slack) c.args.rules.now) in
+      let e = c.in_ok-end.ensures in
+      let t = c.in_ok-told.ensures in
+      let said = record m { world = c.flush.new.world; labels = c.tell_all.new.labels; journal = c.tell_all.new.journal } in
+      let middle = record said { pages = c.keep_live.new.pages } in
+      let act : told.World → told.World = λ w. (flush env w).world in
+      let done = acts_steps hosts _ _ m c.flush.new.world c.tell_all.new.labels c.tell_all.new.journal c.new-events.result.items c.flush.new.events.items act act c.in_ok-told.told.items
+      c.new-events.ensures.items (e.done.does hosts all sound) refl
+      (tells_by m.labels c.tell_all.new.labels m.journal c.tell_all.new.journal c.flush.new.events.items _ c.in_ok-told.told.items c.deref.ensures.value t.entries t.labels t.noted t.names) in
+      let paged = pages_steps hosts _ said middle c.in_ok-told.told.items _ done refl
+      (c.keep_live.ensures ∙ ap (λ ns. filter (λ p. is_in p.number ns) m.pages.items) c.deref-2.ensures.value) in
+      let last = c.in_ok-told-2.ensures.steps hosts (map (λ r. r.slack) c.args.rules.now) (e.done.answers hosts all) paged.sound in
+      flush_steps hosts env _ _ _ m middle c.end_flush.new.self c.in_ok-told.told.items c.in_ok-told-2.told.items c.in_ok-end.end.refused paged (e.ends hosts all sound).1 last;
+  leaves = λ hosts all sound.
+      let m = c.args.self.now in
+      let env = environment hosts (map (λ r. r.slack) c.args.rules.now) in
+      let e = c.in_ok-end.ensures in
+      let middle = record m { world = c.flush.new.world; labels = c.tell_all.new.labels; journal = c.tell_all.new.journal; pages = c.keep_live.new.pages } in
+      let d = e.done.does hosts all sound in
+      let before = ap length c.new-events.ensures.items in
+      let small = c.flush.new.events.small in
+      let heavy = e.spent.weight in
+      let first = leaves_ended _ _ (length c.args.rules.now) m middle c.requires.can.ready (record { names = refl; templates = refl; handlers = refl; scripts = refl; labels = c.in_ok-told.ensures.names })
+      (stays_by _ _ m.world c.flush.new.world (λ w. (flush env w).world) d.whole (flushes_keep_counts env) (flushes_keep_kinds env))
+      (c.keep_live.ensures ∙ ap (λ ns. filter (λ p. is_in p.number ns) m.pages.items) c.deref-2.ensures.value)
+      (roomy_none c.flush.new.world.graph.state.signals m.batch c.requires.alone) (λ a. e.done.agrees) (λ r. e.done.rules _ r)
+      (omega (arith, heavy, before, small)) in
+      let last = c.in_ok-told-2.ensures.leaves hosts (length c.args.rules.now) first.ready (e.done.answers hosts all) d.sound in
+      let more = c.in_ok-told-2.ensures.settled.worn in
+      let same = ap (λ x. x.effects_made) c.in_ok-told-2.ensures.settled.stays.tables in
+      record { ready = last.ready; holds = λ h. last.holds (first.holds h); weight = omega (arith, heavy, before, small, more, same) };
+  answers = λ hosts all. c.in_ok-told-2.ensures.settled.answers hosts (c.in_ok-end.ensures.done.answers hosts all);
+  counted = c.in_ok-told-2.ensures.settled.counted;
+  most =
+      let heavy = c.in_ok-end.ensures.spent.most in
+      let before = ap length c.new-events.ensures.items in
+      let small = c.flush.new.events.small in
+      let more = c.in_ok-told-2.ensures.settled.most in
+      omega (arith, heavy, before, small, more);
+}

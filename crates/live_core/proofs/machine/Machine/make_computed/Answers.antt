@@ -1,4 +1,5 @@
-use Rattle.std.proofs.Common.{rules, Err, ◌≡◌, ◌∙◌, ◌∷◌, [], ◌++◌, ◌+◌, ℕ, true, refl, sym, ap, subst, arith}
+use Rattle.std.proofs.Common.{rules, Err, ◌≡◌, ◌∙◌, ◌∷◌, [], ◌++◌, ℕ, true, refl, sym, ap, subst, arith}
+use Rattle.std.proofs.lemmas.Bool.{true≢false}
 use Rattle.sig_base.specs.declared.limits.TheConstants.{MOST_NODES}
 use Rattle.signal_model.specs.Changes.{live_count}
 use Rattle.effect_tables.specs.Owners.{living}
@@ -21,7 +22,7 @@ use Rattle.live_model.specs.Links.{owner_of, recipe_of}
 use Rattle.live_model.specs.Uses.{uses_of_inside, uses_of_source}
 use Rattle.live_labels.specs.Views.{labels_of}
 use Rattle.live_core.proofs.Rightly.{inside_open, neither, new_name, parted, refused_at, uses_fine}
-use Rattle.live_core.proofs.Commands.{every, few_made, few_slots, free_made, host_fine, made_for, none_next, not_most, only_three, paged_for, room_below, source_used, stood_for, true_false}
+use Rattle.live_core.proofs.Commands.{every, few_made, few_slots, free_made, host_fine, made_for, none_next, not_most, only_three, paged_for, room_below, source_used, stood_for}
 use Rattle.live_core.proofs.Creations.{beside_computed, here_computed, leaves_signal, steps_named}
 use Rattle.live_core.proofs.machine.Machine.make_computed.Goals as goal
 
@@ -86,7 +87,7 @@ returns-in_err-id-clause-memory c =
     let opened : is_open (living 0 m.world.tables.owners.items) c.owner_of-owner.result ≡ true =
     subst (λ o. is_open (living 0 m.world.tables.owners.items) o ≡ true) (sym c.owner_of-owner.ensures) (inside_open m.world m.names c.args.inside (parted m.world m.names (uses_of_source c.args.source) (uses_of_inside c.args.inside) fine.1).1) in
     let room = room_below MOST_NODES (live_count m.world.graph.state.signals) limit.Nodes c.requires.room in
-    let f = only_three _ (λ e. true_false (sym opened ∙ c.in_err-id.ensures.refuses.0.0 (ap (λ x. Err x) e))) (λ e. not_most _ MOST_NODES room (c.in_err-id.ensures.refuses.1.0 (ap (λ x. Err x) e)).1) in
+    let f = only_three _ (λ e. true≢false (sym opened ∙ c.in_err-id.ensures.refuses.0.0 (ap (λ x. Err x) e))) (λ e. not_most _ MOST_NODES room (c.in_err-id.ensures.refuses.1.0 (ap (λ x. Err x) e)).1) in
     search rules
 
 pub name_signal-requires : goal.name_signal-requires

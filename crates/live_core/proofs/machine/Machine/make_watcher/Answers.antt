@@ -1,4 +1,4 @@
-use Rattle.std.proofs.Common.{◌∙◌, ◌∷◌, [], ◌++◌, ◌+◌, Bool, ap, arith}
+use Rattle.std.proofs.Common.{◌∙◌, ◌∷◌, [], ◌++◌, Bool, ap, arith}
 use Rattle.effect_model.specs.Commands.{with_new_watcher}
 use Rattle.effect_model.specs.Worlds.{at_rest}
 use Rattle.effect_world.specs.Wholes.{whole_of}

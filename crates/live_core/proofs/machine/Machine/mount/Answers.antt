@@ -1,4 +1,4 @@
-use Rattle.std.proofs.Common.{◌≡◌, ◌∙◌, ◌∷◌, [], ◌++◌, ◌+◌, ◌<◌, ℕ, true, length, map, sym, ap, subst, arith}
+use Rattle.std.proofs.Common.{◌≡◌, ◌∙◌, ◌∷◌, [], ◌++◌, ◌<◌, ℕ, true, length, map, sym, ap, subst, arith}
 use Rattle.std.proofs.lemmas.List.{length-map}
 use Rattle.std.proofs.lemmas.Result.{err_from_is_err_and}
 use Rattle.effect_tables.specs.Owners.{living}
@@ -36,7 +36,7 @@ make_page-requires-clause-room g c =
 
 pub make_page-requires-clause-counted : goal.make_page-requires-clause-counted
 make_page-requires-clause-counted g c =
-    let a = c.requires.ready.paged in
+    let a = c.requires.can.ready.paged in
     let b = c.args.self.now.labels.pages.ok.0 in
     let d = c.args.self.now.labels.pages.small in
     let e = ap (λ t. t.pages_made) c.in_ok-page.ensures.settled.stays.tables in
@@ -48,60 +48,63 @@ add_page-requires g c =
     let fine = neither (refused_at m.world m.names c.args.name need.New) _ (uses_fine m (command.Mount c.args.name c.args.template.now c.args.inside.now) c.requires.fine) in
     new_name m.world m.names c.args.name fine.0
 
-pub returns-clause-steps : goal.returns-clause-steps
-returns-clause-steps g c = λ hosts slacks all sound.
-    let m = c.args.self.now in
-    let env = environment hosts slacks in
-    let e = c.in_ok-page.ensures in
-    let a = c.in_ok-add_page.ensures in
-    let t : c.number_of-template.result ≡ number_of m.names c.args.template.now = c.number_of-template.ensures in
-    let up = e.page hosts slacks all sound in
-    let d = c.in_ok-number.ensures.does hosts _ (e.settled.sound hosts all sound) in
-    let same = rw (c.deref.ensures.value, t, c.new-told.ensures.items) at up in
-    mount_steps hosts env _ _ m c.add_page.new.self c.mount.new.world c.make_page.new.world c.mount.new.journal c.args.name (number_of m.names c.args.template.now) c.in_ok-number.number (owner_of m.names c.args.inside.now)
-    c.in_ok-page.page c.mount.new.told.items same (c.in_ok-number.ensures.id ∙ ap (λ x. x.pages_made) e.settled.stays.tables)
-    (by_owner _ c.make_page.new.world c.mount.new.world c.owner_of-owner.result (owner_of m.names c.args.inside.now) d.whole c.owner_of-owner.ensures)
-    d.sound a.parts a.names a.labels
-    (a.pages ∙ ap (λ (x : ℕ). m.pages.items ++ (record { name = c.args.name; number = c.in_ok-number.number; template = x; page = c.in_ok-page.page }) ∷ []) t)
-
-pub returns-clause-leaves : goal.returns-clause-leaves
-returns-clause-leaves g c = λ hosts count all sound.
-    let m = c.args.self.now in
-    let e = c.in_ok-page.ensures in
-    let a = c.in_ok-add_page.ensures in
-    let d = c.in_ok-number.ensures.does hosts _ (e.settled.sound hosts all sound) in
-    let fine = neither (refused_at m.world m.names c.args.name need.New) _ (uses_fine m (command.Mount c.args.name c.args.template.now c.args.inside.now) c.requires.fine) in
-    let second = neither (refused_at m.world m.names c.args.template.now (need.Of kind.Template)) _ fine.1 in
-    let t = c.number_of-template.ensures in
-    let below = template_used m.world _ m.names c.args.template.now c.requires.ready.meant (used_of m.world m.names c.args.template.now kind.Template second.0) in
-    let page : Mounted = record { name = c.args.name; number = c.in_ok-number.number; template = c.number_of-template.result; page = c.in_ok-page.page } in
-    leaves_mounted _ _ count m c.add_page.new.self c.mount.new.world c.make_page.new.world c.mount.new.journal c.args.name c.in_ok-number.number page c.requires.ready a.parts a.names a.labels a.pages c.owner_of-owner.result
-    d.whole c.in_ok-number.ensures.signals e.settled.stays (c.in_ok-number.ensures.id ∙ ap (λ x. x.pages_made) e.settled.stays.tables)
-    (record {
-      template = subst (λ (n : ℕ). n < length (map template_of m.templates.items)) (sym t) (subst (λ (k : ℕ). number_of m.names c.args.template.now < k) (sym (length-map m.templates.items template_of)) below);
-      stands = subst (λ ts. Stands (template_in (map template_of ts) c.number_of-template.result).lines (template_in (map template_of ts) c.number_of-template.result).links (standing c.in_ok-page.page)) c.deref.ensures.value e.stands;
-    })
-    (room_below MOST_PAGES (length m.world.tables.pages.items) limit.Pages c.requires.room)
-    (c.in_ok-number.ensures.agrees _ e.settled.agrees) e.settled.worn
-
 pub mount-requires-clause-can : goal.mount-requires-clause-can
 mount-requires-clause-can g c =
-    let w = c.requires.weight in
-    let r = c.requires.most in
-    record { agrees = c.requires.agrees; counted = c.requires.counted; worn = omega (arith, w); room = omega (arith, r) }
+    let w = c.requires.can.weight in
+    let r = c.requires.can.most in
+    record { agrees = c.requires.can.agrees; counted = c.requires.can.counted; worn = omega (arith, w); room = omega (arith, r) }
 
 pub mount-requires-clause-known : goal.mount-requires-clause-known
 mount-requires-clause-known g c =
     let m = c.args.self.now in
     let fine = neither (refused_at m.world m.names c.args.name need.New) _ (uses_fine m (command.Mount c.args.name c.args.template.now c.args.inside.now) c.requires.fine) in
     let second = neither (refused_at m.world m.names c.args.template.now (need.Of kind.Template)) _ fine.1 in
-    let below = template_used m.world _ m.names c.args.template.now c.requires.ready.meant (used_of m.world m.names c.args.template.now kind.Template second.0) in
+    let below = template_used m.world _ m.names c.args.template.now c.requires.can.ready.meant (used_of m.world m.names c.args.template.now kind.Template second.0) in
     rw (c.deref.ensures.value) (subst (λ (n : ℕ). n < length m.templates.items) (sym c.number_of-template.ensures) below)
 
 pub mount-requires-clause-templates : goal.mount-requires-clause-templates
-mount-requires-clause-templates g c = rw (c.deref.ensures.value) c.requires.ready.templates
+mount-requires-clause-templates g c = rw (c.deref.ensures.value) c.requires.can.ready.templates
 
 pub returns-in_err-number-clause-memory : goal.returns-in_err-number-clause-memory
 returns-in_err-number-clause-memory g c =
     let p = err_from_is_err_and c.from_residual-in_err-number.result c.from_residual-in_err-number.ensures.1 in
     rw p.1 (p.2 ∙ c.in_err-number.ensures.memory)
+
+pub returns-clause-did : goal.returns-clause-did
+returns-clause-did g c = λ slacks count. record {
+  steps = λ hosts all sound.
+      let m = c.args.self.now in
+      let env = environment hosts slacks in
+      let e = c.in_ok-page.ensures in
+      let a = c.in_ok-add_page.ensures in
+      let t : c.number_of-template.result ≡ number_of m.names c.args.template.now = c.number_of-template.ensures in
+      let up = e.page hosts slacks all sound in
+      let d = c.in_ok-number.ensures.does hosts _ (e.settled.sound hosts all sound) in
+      let same = rw (c.deref.ensures.value, t, c.new-told.ensures.items) at up in
+      mount_steps hosts env _ _ m c.add_page.new.self c.mount.new.world c.make_page.new.world c.mount.new.journal c.args.name (number_of m.names c.args.template.now) c.in_ok-number.number (owner_of m.names c.args.inside.now)
+      c.in_ok-page.page c.mount.new.told.items same (c.in_ok-number.ensures.id ∙ ap (λ x. x.pages_made) e.settled.stays.tables)
+      (by_owner _ c.make_page.new.world c.mount.new.world c.owner_of-owner.result (owner_of m.names c.args.inside.now) d.whole c.owner_of-owner.ensures)
+      d.sound a.parts a.names a.labels
+      (a.pages ∙ ap (λ (x : ℕ). m.pages.items ++ (record { name = c.args.name; number = c.in_ok-number.number; template = x; page = c.in_ok-page.page }) ∷ []) t);
+  leaves = λ hosts all sound.
+      let m = c.args.self.now in
+      let e = c.in_ok-page.ensures in
+      let a = c.in_ok-add_page.ensures in
+      let d = c.in_ok-number.ensures.does hosts _ (e.settled.sound hosts all sound) in
+      let fine = neither (refused_at m.world m.names c.args.name need.New) _ (uses_fine m (command.Mount c.args.name c.args.template.now c.args.inside.now) c.requires.fine) in
+      let second = neither (refused_at m.world m.names c.args.template.now (need.Of kind.Template)) _ fine.1 in
+      let t = c.number_of-template.ensures in
+      let below = template_used m.world _ m.names c.args.template.now c.requires.can.ready.meant (used_of m.world m.names c.args.template.now kind.Template second.0) in
+      let page : Mounted = record { name = c.args.name; number = c.in_ok-number.number; template = c.number_of-template.result; page = c.in_ok-page.page } in
+      leaves_mounted _ _ count m c.add_page.new.self c.mount.new.world c.make_page.new.world c.mount.new.journal c.args.name c.in_ok-number.number page c.requires.can.ready a.parts a.names a.labels a.pages c.owner_of-owner.result
+      d.whole c.in_ok-number.ensures.signals e.settled.stays (c.in_ok-number.ensures.id ∙ ap (λ x. x.pages_made) e.settled.stays.tables)
+      (record {
+        template = subst (λ (n : ℕ). n < length (map template_of m.templates.items)) (sym t) (subst (λ (k : ℕ). number_of m.names c.args.template.now < k) (sym (length-map m.templates.items template_of)) below);
+        stands = subst (λ ts. Stands (template_in (map template_of ts) c.number_of-template.result).lines (template_in (map template_of ts) c.number_of-template.result).links (standing c.in_ok-page.page)) c.deref.ensures.value e.stands;
+      })
+      (room_below MOST_PAGES (length m.world.tables.pages.items) limit.Pages c.requires.room)
+      (c.in_ok-number.ensures.agrees _ e.settled.agrees) e.settled.worn;
+  answers = c.in_ok-page.ensures.settled.answers;
+  counted = c.in_ok-page.ensures.settled.counted;
+  most = let a = c.in_ok-page.ensures.settled.most in omega (arith, a);
+}
