@@ -5,7 +5,7 @@ ghost use Rattle.html_out.specs.Html.{good_name, is_raw, is_void};
 use sig_base::{MOST_TAG, is_tag};
 
 /// Whether an element of this name has neither children nor an end tag when it is serialised (WHATWG HTML, serialising fragments).
-#[tactic(auto, using(crate::proofs::Lengths::unlike), unfolding(crate::specs::Html::is_void))]
+#[tactic(auto, using(sig_base::proofs::Lengths::unlike), unfolding(crate::specs::Html::is_void))]
 pub fn is_void(name: &str) -> bool
     ensures { result ≡ is_void name.now }
 {
@@ -22,7 +22,7 @@ pub fn is_void(name: &str) -> bool
 }
 
 /// Whether the texts in an element of this name are written as they are (WHATWG HTML, serialising fragments, scripting disabled).
-#[tactic(auto, using(crate::proofs::Lengths::unlike), unfolding(crate::specs::Html::is_raw))]
+#[tactic(auto, using(sig_base::proofs::Lengths::unlike), unfolding(crate::specs::Html::is_raw))]
 pub fn is_raw(name: &str) -> bool
     ensures { result ≡ is_raw name.now }
 {

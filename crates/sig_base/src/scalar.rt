@@ -5,6 +5,7 @@ ghost use Rattle.std.specs.Cmp.{decided, partial_equiv_from_equiv};
 ghost use Rattle.sig_base.specs.Scalars.{same_scalar-Decides};
 
 use crate::{NoMemory, Text};
+use itoa::{Buffer, Integer};
 use std::fmt;
 
 /// A truth, a whole number or a text.
@@ -62,11 +63,24 @@ impl fmt::Display for Scalar {
     }
 }
 
+/// Appends a whole number, as `{}` prints it.
+pub fn put_number<I: Integer>(out: &mut Vec<u8>, number: I) -> Result<(), NoMemory>
+    ensures { OnOk result (out.new.items ≡ out.old.items ++ I.text number) }
+{
+    let mut buffer = Buffer::new();
+    out.extend_from_slice(buffer.format(number).as_bytes())?;
+    Ok(())
+}
+
 /// Appends the shown text: `true` or `false`, the decimal digits, the text itself.
 pub fn put_shown(out: &mut Vec<u8>, scalar: &Scalar) -> Result<(), NoMemory>
     ensures { OnOk result (out.new.items ≡ out.old.items ++ shown_text scalar.now) }
 {
-    let text = scalar.to_string(*out.allocator())?;
-    out.extend_from_slice(text.as_bytes())?;
+    match scalar {
+        Scalar::Bool(true) => out.extend_from_slice(b"true")?,
+        Scalar::Bool(false) => out.extend_from_slice(b"false")?,
+        Scalar::Int(n) => put_number(out, *n)?,
+        Scalar::Text(text) => out.extend_from_slice(text.as_str().as_bytes())?,
+    }
     Ok(())
 }

@@ -32,26 +32,28 @@ fn are_in_word(bytes: &[u8]) -> bool
     bytes.iter().all(|b| in_word(*b))
 }
 
-#[tactic(auto, unfolding(crate::specs::Words::is_reserved))]
+#[tactic(auto, using(crate::proofs::Lengths::unlike), unfolding(crate::specs::Words::is_reserved))]
 fn is_reserved(word: &[u8]) -> bool
     ensures { result ≡ is_reserved word.now }
 {
-    word == b"and".as_slice()
-        || word == b"or".as_slice()
-        || word == b"not".as_slice()
-        || word == b"if".as_slice()
-        || word == b"then".as_slice()
-        || word == b"else".as_slice()
-        || word == b"true".as_slice()
-        || word == b"false".as_slice()
-        || word == b"count".as_slice()
-        || word == b"sum".as_slice()
-        || word == b"keep".as_slice()
-        || word == b"it".as_slice()
-        || word == b"untrack".as_slice()
-        || word == b"host".as_slice()
-        || word == b"in".as_slice()
-        || word == b"equals".as_slice()
+    match word.len() {
+        2 => word == b"or".as_slice()
+            || word == b"if".as_slice()
+            || word == b"it".as_slice()
+            || word == b"in".as_slice(),
+        3 => word == b"and".as_slice() || word == b"not".as_slice() || word == b"sum".as_slice(),
+        4 => {
+            word == b"then".as_slice()
+                || word == b"else".as_slice()
+                || word == b"true".as_slice()
+                || word == b"keep".as_slice()
+                || word == b"host".as_slice()
+        }
+        5 => word == b"false".as_slice() || word == b"count".as_slice(),
+        6 => word == b"equals".as_slice(),
+        7 => word == b"untrack".as_slice(),
+        _ => false,
+    }
 }
 
 /// Whether bytes are a name: a word of at most `MOST_NAME` bytes that isn't reserved.
