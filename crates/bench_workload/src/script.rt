@@ -2,7 +2,7 @@
 ghost use Rattle.std.specs.Prelude.{◌≡◌, ◌≤◌, ◌+◌, ◌*◌, ◌++◌, length, flat_map, IfOk, OnOk};
 ghost use Rattle.bench_workload.specs.Workload.{ended, first_lines, flush_lines, line_of_set, lines_of_round, switch_lines, workload_text};
 
-use sig_base::NoMemory;
+use sig_base::{NoMemory, put_decimal};
 use std::alloc::Global;
 
 // The cells, the computeds over them, the template and its page.
@@ -36,8 +36,7 @@ fn put_set(out: &mut Vec<u8>, value: u64) -> Result<(), NoMemory>
     ensures { OnOk result (out.new.items ≡ out.old.items ++ ended (line_of_set value)) }
 {
     put(out, b"set a ")?;
-    let digits = value.to_string(*out.allocator())?;
-    put(out, digits.as_bytes())?;
+    put_decimal(out, value)?;
     put(out, b"\n")
 }
 

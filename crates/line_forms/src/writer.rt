@@ -5,7 +5,7 @@ ghost use Rattle.line_forms.specs.Forms as form;
 ghost use Rattle.line_forms.specs.Printed.{behind_tokens, opened_tokens, part_text, spaced};
 
 use formula_text::{Wired, put_formula};
-use sig_base::{Name, NoMemory, Scalar, Text, put_quoted, put_scalar};
+use sig_base::{Name, NoMemory, Scalar, Text, put_decimal, put_quoted, put_scalar};
 
 /// Appends a name.
 pub fn put_name(out: &mut Vec<u8>, name: &Name) -> Result<(), NoMemory>
@@ -52,8 +52,8 @@ pub fn put_key(out: &mut Vec<u8>, key: &Text) -> Result<(), NoMemory>
 pub fn put_count(out: &mut Vec<u8>, number: u64) -> Result<(), NoMemory>
     ensures { OnOk result (out.new.items ≡ out.old.items ++ part_text (form.one form.count) number) }
 {
-    let digits = number.to_string(*out.allocator())?;
-    put_fixed(out, digits.as_bytes())
+    out.push(b' ')?;
+    put_decimal(out, number)
 }
 
 /// Appends this word and a number, if there is one.

@@ -12,7 +12,9 @@ use crate::{
     Entry, FieldDetail, Label, LimitWord, NameList, PageBytes, PageOp, Reason, Refusal, Seen,
 };
 use page_ops::op_line;
-use sig_base::{Fault, Name, NoMemory, Outcome, Text, Value, put_fault, put_quoted, put_value};
+use sig_base::{
+    Fault, Name, NoMemory, Outcome, Text, Value, put_decimal, put_fault, put_quoted, put_value,
+};
 
 // Whether the entry is printed only where a trace is asked for.
 fn is_traced(entry: &Entry) -> bool
@@ -57,8 +59,7 @@ fn limit_word(limit: LimitWord) -> &'static str
 fn put_number(out: &mut Vec<u8>, number: u128) -> Result<(), NoMemory>
     ensures { OnOk result (out.new.items ≡ out.old.items ++ decimal number) }
 {
-    let digits = number.to_string(*out.allocator())?;
-    put(out, digits.as_bytes())
+    put_decimal(out, number)
 }
 
 fn put_with_number(out: &mut Vec<u8>, rule: &[u8], number: u64) -> Result<(), NoMemory>

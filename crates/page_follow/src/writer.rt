@@ -3,7 +3,7 @@ ghost use Rattle.std.specs.Prelude.{◌≡◌, ◌++◌, OnOk};
 ghost use Rattle.wire_model.specs.Following.{page_line};
 
 use page_tree::Tree;
-use sig_base::{Name, NoMemory};
+use sig_base::{Name, NoMemory, put_decimal};
 
 fn put(out: &mut Vec<u8>, bytes: &[u8]) -> Result<(), NoMemory>
     ensures { OnOk result (out.new.items ≡ out.old.items ++ bytes.now) }
@@ -22,8 +22,7 @@ pub(crate) fn put_page(out: &mut Vec<u8>, name: &Name, tree: &Tree) -> Result<()
     put(out, b"page ")?;
     put(out, name.as_str().as_bytes())?;
     put(out, b" ")?;
-    let count = html.len().to_string(alloc)?;
-    put(out, count.as_bytes())?;
+    put_decimal(out, html.len())?;
     put(out, b"\n")?;
     put(out, &html)?;
     put(out, b"\n")

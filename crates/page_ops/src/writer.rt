@@ -8,7 +8,7 @@ ghost use Rattle.page_ops.specs.Ops.{op_of, opened};
 
 use crate::op::Op;
 use page_tree::Sub;
-use sig_base::{NoMemory, Text, put_quoted};
+use sig_base::{NoMemory, Text, put_decimal, put_quoted};
 
 fn put(out: &mut Vec<u8>, bytes: &[u8]) -> Result<(), NoMemory>
     ensures { OnOk result (out.new.items ≡ out.old.items ++ bytes.now) }
@@ -23,8 +23,7 @@ fn put_number(out: &mut Vec<u8>, before: &[u8], number: u64) -> Result<(), NoMem
     ensures sized { IsNumber number }
 {
     put(out, before)?;
-    let digits = number.to_string(*out.allocator())?;
-    put(out, digits.as_bytes())?;
+    put_decimal(out, number)?;
     Ok(())
 }
 

@@ -21,7 +21,7 @@ pub use limits::{
 pub use name::{Name, NameFault};
 pub use print::{put_fault, put_quoted, put_scalar, put_value};
 pub use rows::{Row, Rows, Scalars};
-pub use scalar::{Scalar, put_number, put_shown};
+pub use scalar::{Scalar, put_decimal, put_shown};
 pub use text::{Text, TextFault};
 pub use value::{Fault, Known, Outcome, Step, Value, alike};
 pub use word::{begins_word, in_tag, in_word, is_blank, is_name, is_tag};

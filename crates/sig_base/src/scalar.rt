@@ -64,7 +64,7 @@ impl fmt::Display for Scalar {
 }
 
 /// Appends a whole number, as `{}` prints it.
-pub fn put_number<I: Integer>(out: &mut Vec<u8>, number: I) -> Result<(), NoMemory>
+pub fn put_decimal<I: Integer>(out: &mut Vec<u8>, number: I) -> Result<(), NoMemory>
     ensures { OnOk result (out.new.items ≡ out.old.items ++ I.text number) }
 {
     let mut buffer = Buffer::new();
@@ -79,7 +79,7 @@ pub fn put_shown(out: &mut Vec<u8>, scalar: &Scalar) -> Result<(), NoMemory>
     match scalar {
         Scalar::Bool(true) => out.extend_from_slice(b"true")?,
         Scalar::Bool(false) => out.extend_from_slice(b"false")?,
-        Scalar::Int(n) => put_number(out, *n)?,
+        Scalar::Int(n) => put_decimal(out, *n)?,
         Scalar::Text(text) => out.extend_from_slice(text.as_str().as_bytes())?,
     }
     Ok(())

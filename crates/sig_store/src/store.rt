@@ -68,16 +68,43 @@ fn note_hint(hints: &mut [usize], number: u128, place: usize) {
     }
 }
 
-// The place that is a number's hint, where it holds the value of that number.
-fn hinted_place<T>(hints: &[usize], held: &Slab<Held<T>>, number: u128) -> Option<usize>
+// A place, where it holds the value of a number.
+fn checked_place<T>(held: &Slab<Held<T>>, place: usize, number: u128) -> Option<usize>
     ensures { IfSome result (λ p. number_there (held_at held.now) p ≡ Some number) }
 {
-    let place = *hints.get(hint_of(number))?;
     let one = held.get(place)?;
     if one.number == number {
         Some(place)
     } else {
         None
+    }
+}
+
+// The place that is a number's hint, where it holds the value of that number.
+fn hinted_place<T>(hints: &[usize], held: &Slab<Held<T>>, number: u128) -> Option<usize>
+    ensures { IfSome result (λ p. number_there (held_at held.now) p ≡ Some number) }
+{
+    let place = *hints.get(hint_of(number))?;
+    checked_place(held, place, number)
+}
+
+// The place that is a number itself, as it is where nothing was taken out before, where it holds the value of that number.
+fn first_place<T>(held: &Slab<Held<T>>, number: u128) -> Option<usize>
+    ensures { IfSome result (λ p. number_there (held_at held.now) p ≡ Some number) }
+{
+    match usize::try_from(number) {
+        Ok(place) => checked_place(held, place, number),
+        Err(_) => None,
+    }
+}
+
+// The first of these two.
+fn likely_place<T>(hints: &[usize], held: &Slab<Held<T>>, number: u128) -> Option<usize>
+    ensures { IfSome result (λ p. number_there (held_at held.now) p ≡ Some number) }
+{
+    match first_place(held, number) {
+        Some(place) => Some(place),
+        None => hinted_place(hints, held, number),
     }
 }
 
@@ -91,7 +118,7 @@ fn place_of<T>(
     requires { AreOwn (get nat_eq places.now) (held_at held.now) }
     ensures { result ≡ get nat_eq places.now number }
 {
-    match hinted_place(hints, held, number) {
+    match likely_place(hints, held, number) {
         Some(place) => Some(place),
         None => places.get(&number).copied(),
     }
