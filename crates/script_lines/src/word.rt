@@ -54,26 +54,32 @@ fn first_word(line: &[u8]) -> &[u8]
 }
 
 // Whether a line outside a block begins one.
-#[tactic(auto, unfolding(crate::specs::Pieces::begins_block))]
+#[tactic(auto, using(sig_base::proofs::Lengths::unlike), unfolding(crate::specs::Pieces::begins_block))]
 pub(crate) fn begins_block(line: &[u8]) -> bool
     ensures { result ≡ begins_block line.now }
 {
     let word = first_word(line);
-    word == b"effect".as_slice() || word == b"template".as_slice() || word == b"on".as_slice()
+    match word.len() {
+        2 => word == b"on".as_slice(),
+        6 => word == b"effect".as_slice(),
+        8 => word == b"template".as_slice(),
+        _ => false,
+    }
 }
 
 // Whether a line inside a block opens a level.
-#[tactic(auto, unfolding(crate::specs::Pieces::opens))]
+#[tactic(auto, using(sig_base::proofs::Lengths::unlike), unfolding(crate::specs::Pieces::opens))]
 pub(crate) fn opens(line: &[u8]) -> bool
     ensures { result ≡ opens line.now }
 {
     let word = first_word(line);
-    word == b"effect".as_slice()
-        || word == b"when".as_slice()
-        || word == b"tag".as_slice()
-        || word == b"if".as_slice()
-        || word == b"each".as_slice()
-        || word == b"try".as_slice()
+    match word.len() {
+        2 => word == b"if".as_slice(),
+        3 => word == b"tag".as_slice() || word == b"try".as_slice(),
+        4 => word == b"when".as_slice() || word == b"each".as_slice(),
+        6 => word == b"effect".as_slice(),
+        _ => false,
+    }
 }
 
 // Whether a line inside a block closes a level.
