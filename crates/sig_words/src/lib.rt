@@ -9,5 +9,6 @@ mod scan;
 mod token;
 
 pub use line::{LineFault, one_cutting, tokens};
+pub use number::integer;
 pub use quotes::{each_character_is_written, literal};
 pub use token::{Token, TokenKind, token_bytes};

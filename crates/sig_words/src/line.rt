@@ -9,7 +9,7 @@ ghost use Rattle.sig_words.specs.declared.line.LineFault.TheVariants as fault;
 use crate::scan::scan;
 use crate::token::Token;
 use sig_base::{MOST_LINE, NoMemory, is_blank};
-use std::alloc::{AllocFailed, Global};
+use std::alloc::{AllocError, AllocFailed, Global};
 use std::str;
 use thiserror::Error;
 
@@ -31,6 +31,17 @@ impl From<AllocFailed<Token>> for LineFault {
         LineFault::NoMemory(NoMemory)
     }
 }
+
+impl From<AllocError> for LineFault {
+    ghost from_gives = { λ _ e. e ≡ fault.NoMemory (record {}) };
+
+    fn from(_: AllocError) -> Self {
+        LineFault::NoMemory(NoMemory)
+    }
+}
+
+// For how many tokens there is room at once: few lines have more.
+const COMMON_TOKENS: usize = 8;
 
 fn may_sign(line: &[u8], at: usize) -> bool
     requires { at ≤ length line.now }
@@ -65,7 +76,7 @@ fn cut(alloc: Global, line: &[u8]) -> Result<Vec<Token>, LineFault>
     ensures refused { IfErr result (λ e. Refuses line.now e) }
     ensures never_long { IsErrOf result LineFault.TooLong → ⊥ }
 {
-    let mut out = Vec::new(alloc);
+    let mut out = Vec::with_capacity(alloc, COMMON_TOKENS)?;
     let mut at = 0;
     while at < line.len() {
         let start = past_blanks(line, at);
