@@ -3,7 +3,7 @@ use Rattle.std.proofs.Common.{◌≡◌, ℕ, ◌+◌, true, List, [], ◌∷◌
 use Rattle.std.specs.Prelude.{IsTrue}
 use Rattle.std.proofs.lemmas.Bool.{cases_Bool}
 use Rattle.sig_words.specs.declared.token.Token.{Token}
-use Rattle.sig_words.specs.Lexemes.{lexemes}
+use Rattle.sig_words.specs.Lexemes.{word, lexemes}
 use Rattle.sig_words.specs.Tokens.{AreTokens, IsBad}
 use Rattle.sig_words.proofs.Shared.{no_cutting, one_cutting, tokens_or_none}
 use Rattle.script_lines.specs.Lines.{NumberedLine, numbered}
@@ -11,7 +11,8 @@ use Rattle.line_forms.specs.Blocks.{Writes, Places, Say, IsFaulty, reached, said
 use Rattle.line_forms.specs.Printed.{line_text}
 use Rattle.line_forms.specs.Rows.{Language, Said, IsGrammar, said_of}
 use Rattle.line_forms.proofs.Completeness.{said_complete, said_spells}
-use Rattle.line_forms.proofs.Lexer.{rewrites}
+use Rattle.line_forms.proofs.Lexer.{prints_line, rewrites}
+use Rattle.line_forms.proofs.Printable.{IsWritten, PrintsForm}
 
 -- ---- one line
 
@@ -126,6 +127,13 @@ one_fault language g at p (l ∷ ls) k j (inr f) (inr h) =
     one_fault language g at (at.moved p f.0) ls k j f.3 (subst (λ (z : Said language). IsFaulty language at (at.moved p z) ls j) same h.3)
 
 -- ---- printed lines say what was said
+
+-- what can be printed of a line is written by its text
+pub text_writes : (language : Language) (x : Said language) → IsWritten (word (language.row x.0).0) → PrintsForm (language.row x.0).1 x.1
+    → Writes language x (line_text language x)
+text_writes language x first parts =
+    let own = prints_line language x first parts in
+    record { tokens = own.tokens; cut = own.cut; spelled = own.spelled }
 
 -- the printed line writes what it was printed of
 pub prints_back : (language : Language) (x : Said language) (bytes : List ℕ) → Writes language x bytes → Writes language x (line_text language x)

@@ -252,15 +252,13 @@ pub record Rewrites (language : Language) (x : Said language) : Type 0 where
   pub first : IsWritten (word (language.row x.0).0)
   pub parts : PrintsForm (language.row x.0).1 x.1
 
--- what a line says is printed as a line that says it
-pub rewrites : (language : Language) (line : List ℕ) (ts : List Token) (x : Said language) → AreTokens line ts → Spells language x (lexemes line ts) → Rewrites language x
-rewrites language line ts x are t =
+-- what can be printed of a line is cut into tokens that spell it
+pub prints_line : (language : Language) (x : Said language) → IsWritten (word (language.row x.0).0) → PrintsForm (language.row x.0).1 x.1 → Rewrites language x
+prints_line language x first own =
     let w = (language.row x.0).0 in
     let ps = (language.row x.0).1 in
-    let good : AreWritten (word w ∷ t.0) = subst AreWritten t.1 (tokens_written line ts are) in
-    let own = form_prints ps x.1 t.0 t.2 good.1 in
     let rest = form_text ps x.1 in
-    let head = cut_first w rest good.0 (form_ends ps x.1) in
+    let head = cut_first w rest first (form_ends ps x.1) in
     let back = cut_form ps x.1 (w ++ rest) (length w) own (drop-append_seam w rest) in
     let end = length w + length rest in
     let all : CutsAs (w ++ rest) 0 end (Spells language x) = join (w ++ rest) 0 (length w) end (λ ls. ls ≡ word w ∷ []) (SpellsForm ps x.1) (Spells language x) head back
@@ -269,12 +267,18 @@ rewrites language line ts x are t =
     record {
       tokens = all.tokens;
       cut = record {
-        utf8 = IsUtf8-append w rest (lexeme_utf8 (word w) good.0) (form_utf8 ps x.1 own);
+        utf8 = IsUtf8-append w rest (lexeme_utf8 (word w) first) (form_utf8 ps x.1 own);
         last = end;
         cuts = all.cuts;
         blanks = rw past refl;
       };
       spelled = all.says;
-      first = good.0;
+      first = first;
       parts = own;
     }
+
+-- what a line says is printed as a line that says it
+pub rewrites : (language : Language) (line : List ℕ) (ts : List Token) (x : Said language) → AreTokens line ts → Spells language x (lexemes line ts) → Rewrites language x
+rewrites language line ts x are t =
+    let good : AreWritten (word (language.row x.0).0 ∷ t.0) = subst AreWritten t.1 (tokens_written line ts are) in
+    prints_line language x good.0 (form_prints (language.row x.0).1 x.1 t.0 t.2 good.1)

@@ -3,6 +3,9 @@
 
 -- a line says one thing, or nothing, and so do lines one after the other
 pub use Rattle.line_forms.proofs.Blocks.{bad_writes_none, one_writing, line_or_none}
+-- what is printed of a line writes it, and which bytes are a name
+pub use Rattle.line_forms.proofs.Blocks.{text_writes}
+pub use Rattle.line_forms.proofs.NameBytes.{name_is, name_word}
 pub use Rattle.line_forms.proofs.Blocks.{lines_or_fault, one_saying, no_both, one_fault, prints_back}
 -- lines that are printed of sayings say them again, whatever their numbers
 pub use Rattle.line_forms.proofs.Blocks.{each_again, reached_again, renumbered, say_again}

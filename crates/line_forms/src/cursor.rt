@@ -48,8 +48,12 @@ pub fn first_word<'a>(line: &'a [u8], tokens: &[Token]) -> Result<&'a str, NotTh
     }
 }
 
-// A word as a name.
-fn as_name(alloc: Global, text: &[u8]) -> Result<Name, Unread>
+/// A word as a name.
+///
+/// # Errors
+///
+/// `NotThere` exactly where it is no name, else `NoMemory` alone.
+pub fn as_name(alloc: Global, text: &[u8]) -> Result<Name, Unread>
     ensures { IfRead result (λ found. found ≡ name_of (word text.now)) }
 {
     let Ok(text) = str::from_utf8(text) else {

@@ -11,8 +11,8 @@ mod values;
 mod writer;
 
 pub use cursor::{
-    ToldFormula, ToldKey, ToldValue, count_at, count_behind, ends_at, first_word, formula_at,
-    key_at, name_at, rough_at, symbol_at, tag_at, told, value_at, word_at,
+    ToldFormula, ToldKey, ToldValue, as_name, count_at, count_behind, ends_at, first_word,
+    formula_at, key_at, name_at, rough_at, symbol_at, tag_at, told, value_at, word_at,
 };
 pub use laws::forms_read;
 pub use lists::{ToldArguments, are_distinct, arguments_at, listed_names_at, names_at};
