@@ -56,7 +56,7 @@ fn put_characters(out: &mut Vec<u8>, text: &str, raw: bool) -> Result<(), NoMemo
     }
 }
 
-// An element around what stands below it, and the place where the next node is looked for first.
+// An element around what stands below it, and the place beside which the next node is looked for first.
 #[cycle(html)]
 fn write_element(
     out: &mut Vec<u8>,
@@ -79,8 +79,8 @@ fn write_element(
     Ok(next)
 }
 
-// One node and what stands below it. It mostly stands behind the one before it in the table too, so that no hash is needed; what is told is the place
-// where the next node is looked for first.
+// One node and what stands below it. It mostly stands beside the one before it in the table too, so that no hash is needed; what is told is the place
+// beside which the next node is looked for first.
 #[cycle(html)]
 #[tactic(auto, using(crate::proofs::Bytes::shows_cons, crate::proofs::Bytes::shows_one, crate::proofs::Bytes::shows_none))]
 fn write_node(
@@ -97,24 +97,31 @@ fn write_node(
     let Some((place, node)) = find_near(nodes, near, id) else {
         return Ok(near);
     };
-    let near = place.wrapping_add(1);
     match &node.label {
-        Label::Root => Ok(near),
+        Label::Root => Ok(place),
         Label::Text(text) => {
             put_characters(out, text.as_str(), raw)?;
-            Ok(near)
+            Ok(place)
         }
         Label::Element(name, attributes) => {
             let children = &node.children;
             let below = levels - 1;
-            let next = write_element(out, nodes, name.as_str(), attributes, children, below, near)?;
+            let next = write_element(
+                out,
+                nodes,
+                name.as_str(),
+                attributes,
+                children,
+                below,
+                place,
+            )?;
             Ok(next)
         }
     }
 }
 
 /// Appends the bytes of these nodes and of what stands below them, on so many levels; their texts are escaped or as they are. The first is looked for
-/// near a place of the table, and the place where a next one is looked for is told.
+/// beside a place of the table, and the place beside which a next one is looked for is told.
 #[cycle(html)]
 #[tactic(auto, using(crate::proofs::Bytes::shows_cons, crate::proofs::Bytes::shows_one, crate::proofs::Bytes::shows_none))]
 pub fn write_nodes(

@@ -1,5 +1,5 @@
 // The nodes of a tree by number, and edits of one of them.
-ghost use Rattle.std.specs.Prelude.{◌≡◌, ◌≤◌, ◌<◌, ℕ, Some, true, length, vec_len, vec_capacity, ◌+◌, MatchResult, nat_eq, option_copied, option_map};
+ghost use Rattle.std.specs.Prelude.{◌≡◌, ◌≤◌, ◌<◌, ℕ, Some, true, length, vec_len, vec_capacity, ◌+◌, IfSome, MatchResult, nat_eq, option_copied, option_map};
 ghost use Rattle.indexmap.specs.IndexMap.{get, spare};
 ghost use Rattle.page_model.specs.Edits.{listed, put_at, taken};
 ghost use Rattle.page_model.specs.Pages as pages;
@@ -125,14 +125,31 @@ fn put_attribute(attributes: &mut Vec<(Text, Text)>, place: usize, name: Text, v
 
 // ---- look-ups
 
-/// A node by its number, and its place in the table; it is looked for at a place first.
+// The node at a place of the table, if it has a number.
+fn node_at(nodes: &IndexMap<u64, Node>, place: usize, id: u64) -> Option<&Node>
+    ensures { IfSome result (λ n. get nat_eq nodes.now id ≡ Some n.now) }
+{
+    let Some((number, node)) = nodes.get_index(place) else {
+        return None;
+    };
+    if *number == id {
+        return Some(node);
+    }
+    None
+}
+
+/// A node by its number, and its place in the table; it is looked for beside a place first: behind it, and before it, where what stood there was taken
+/// out and others came from the table's end.
 pub fn find_near(nodes: &IndexMap<u64, Node>, near: usize, id: u64) -> Option<(usize, &Node)>
     ensures { option_map (λ p. p.1.now) result ≡ get nat_eq nodes.now id }
 {
-    if let Some((number, node)) = nodes.get_index(near) {
-        if *number == id {
-            return Some((near, node));
-        }
+    let behind = near.wrapping_add(1);
+    if let Some(node) = node_at(nodes, behind, id) {
+        return Some((behind, node));
+    }
+    let before = near.wrapping_sub(1);
+    if let Some(node) = node_at(nodes, before, id) {
+        return Some((before, node));
     }
     let Some((place, _, node)) = nodes.get_full(&id) else {
         return None;

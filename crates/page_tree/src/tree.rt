@@ -154,7 +154,7 @@ impl Tree {
         let Some(root) = self.nodes.get(&0) else {
             return Ok(());
         };
-        let _ = write_nodes(out, &self.nodes, &root.children, false, 32, 1)?;
+        let _ = write_nodes(out, &self.nodes, &root.children, false, 32, 0)?;
         Ok(())
     }
 
