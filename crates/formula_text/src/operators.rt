@@ -1,6 +1,6 @@
 // The operators in texts: how each is written, and how it binds.
-ghost use Rattle.std.specs.Prelude.{◌≡◌, map};
-ghost use Rattle.formula_text.specs.Operators.{found, operator_of, row};
+ghost use Rattle.std.specs.Prelude.{◌≡◌, ◌∷◌, []};
+ghost use Rattle.formula_text.specs.Operators.{operator_of, row};
 
 use sig_formula::BinOp;
 
@@ -47,22 +47,56 @@ pub fn group_of(operator: BinOp) -> Group
     OPERATORS[operator as usize].2
 }
 
-// The operator of the first of these rows that is written so.
-fn found(mut rows: &[(BinOp, &[u8], Group)], text: &[u8]) -> Option<BinOp>
-    ensures { result ≡ found (map (λ r. (r.1.now, r.0)) rows.entry.now) text.now }
+// The operator that this byte writes.
+fn of_one(b: u8) -> Option<BinOp>
+    ensures { result ≡ operator_of (b ∷ []) }
 {
-    while let [row, rest @ ..] = rows {
-        if text == row.1 {
-            return Some(row.0);
-        }
-        rows = rest;
+    match b {
+        b'<' => Some(BinOp::Lt),
+        b'>' => Some(BinOp::Gt),
+        b'+' => Some(BinOp::Add),
+        b'-' => Some(BinOp::Sub),
+        b'*' => Some(BinOp::Mul),
+        b'/' => Some(BinOp::Div),
+        b'%' => Some(BinOp::Rem),
+        _ => None,
     }
-    None
+}
+
+// The operator that these two bytes write.
+fn of_two(b: u8, c: u8) -> Option<BinOp>
+    ensures { result ≡ operator_of (b ∷ c ∷ []) }
+{
+    match (b, c) {
+        (b'o', b'r') => Some(BinOp::Or),
+        (b'=', b'=') => Some(BinOp::Eq),
+        (b'!', b'=') => Some(BinOp::Ne),
+        (b'<', b'=') => Some(BinOp::Le),
+        (b'>', b'=') => Some(BinOp::Ge),
+        (b'+', b'+') => Some(BinOp::Join),
+        _ => None,
+    }
+}
+
+// The operator that these three bytes write.
+fn of_three(b: u8, c: u8, d: u8) -> Option<BinOp>
+    ensures { result ≡ operator_of (b ∷ c ∷ d ∷ []) }
+{
+    match (b, c, d) {
+        (b'a', b'n', b'd') => Some(BinOp::And),
+        _ => None,
+    }
 }
 
 /// The operator that is written so.
+#[tactic(auto, using(sig_base::proofs::Lengths::unlike))]
 pub fn operator_of(text: &[u8]) -> Option<BinOp>
     ensures { result ≡ operator_of text.now }
 {
-    found(&OPERATORS, text)
+    match text {
+        [b] => of_one(*b),
+        [b, c] => of_two(*b, *c),
+        [b, c, d] => of_three(*b, *c, *d),
+        _ => None,
+    }
 }

@@ -1,8 +1,8 @@
 // What tokens are in a formula.
-ghost use Rattle.std.specs.Prelude.{◌≡◌, ◌∷◌, ◌+◌, ◌<◌, [], length, true, IfSome, MatchOption};
+ghost use Rattle.std.specs.Prelude.{◌≡◌, ◌∷◌, ◌+◌, ◌<◌, [], length, true, IfSome, MatchOption, if◌then◌else◌};
 ghost use Rattle.sig_base.specs.Words.{is_name};
 ghost use Rattle.sig_words.specs.Lexemes.{lexeme, text_at};
-ghost use Rattle.formula_text.specs.Signs.{form_sign, last_word_sign, later_symbol_sign, later_word_sign, sign, symbol_sign, word_sign};
+ghost use Rattle.formula_text.specs.Signs.{later_symbol_sign, later_word_sign, leaf, name, other, sign, symbol_sign, word_sign};
 ghost use Rattle.formula_text.specs.Rough.{bytes_at, sign_of, IsSeen, IsSeenAt, signs_from};
 
 use crate::operators::operator_of;
@@ -45,59 +45,120 @@ fn word_sign(text: &[u8]) -> Sign
     }
 }
 
-#[tactic(auto, unfolding(crate::specs::Signs::later_word_sign))]
-fn later_word_sign(text: &[u8]) -> Sign
+// What a word is that stands for nothing else.
+fn name_sign(text: &[u8]) -> Sign
+    ensures sign { sign_of text.now result ≡ (if is_name text.now then leaf (name text.now) else other) }
+    ensures name { result ≡ Sign.Name → is_name text.now ≡ true }
+    ensures no_text { result ≡ Sign.Text → ⊥ }
+{
+    if is_name(text) {
+        Sign::Name
+    } else {
+        Sign::Other
+    }
+}
+
+// What a word of two bytes is that is no operator.
+#[tactic(auto, using(sig_base::proofs::Lengths::unlike), unfolding(crate::specs::Signs::later_word_sign, crate::specs::Signs::last_word_sign))]
+fn sign_of_two(text: &[u8]) -> Sign
+    requires { length text.now ≡ 2 }
+    ensures sign { sign_of text.now result ≡ later_word_sign text.now }
+    ensures name { result ≡ Sign.Name → is_name text.now ≡ true }
+    ensures no_text { result ≡ Sign.Text → ⊥ }
+{
+    if text == b"if".as_slice() {
+        Sign::If
+    } else if text == b"it".as_slice() {
+        Sign::It
+    } else {
+        name_sign(text)
+    }
+}
+
+// So it is with three bytes.
+#[tactic(auto, using(sig_base::proofs::Lengths::unlike), unfolding(crate::specs::Signs::later_word_sign, crate::specs::Signs::last_word_sign))]
+fn sign_of_three(text: &[u8]) -> Sign
+    requires { length text.now ≡ 3 }
     ensures sign { sign_of text.now result ≡ later_word_sign text.now }
     ensures name { result ≡ Sign.Name → is_name text.now ≡ true }
     ensures no_text { result ≡ Sign.Text → ⊥ }
 {
     if text == b"not".as_slice() {
         Sign::Not
-    } else if text == b"if".as_slice() {
-        Sign::If
-    } else if text == b"then".as_slice() {
-        Sign::Then
-    } else if text == b"else".as_slice() {
-        Sign::Else
+    } else if text == b"sum".as_slice() {
+        Sign::OverRows(OverRows::Sum)
     } else {
-        form_sign(text)
+        name_sign(text)
     }
 }
 
-fn form_sign(text: &[u8]) -> Sign
-    ensures sign { sign_of text.now result ≡ form_sign text.now }
+// So it is with four.
+#[tactic(auto, using(sig_base::proofs::Lengths::unlike), unfolding(crate::specs::Signs::later_word_sign, crate::specs::Signs::last_word_sign))]
+fn sign_of_four(text: &[u8]) -> Sign
+    requires { length text.now ≡ 4 }
+    ensures sign { sign_of text.now result ≡ later_word_sign text.now }
+    ensures name { result ≡ Sign.Name → is_name text.now ≡ true }
+    ensures no_text { result ≡ Sign.Text → ⊥ }
+{
+    if text == b"then".as_slice() {
+        Sign::Then
+    } else if text == b"else".as_slice() {
+        Sign::Else
+    } else if text == b"keep".as_slice() {
+        Sign::OverRows(OverRows::Keep)
+    } else if text == b"true".as_slice() {
+        Sign::Truth(true)
+    } else {
+        name_sign(text)
+    }
+}
+
+// So it is with five.
+#[tactic(auto, using(sig_base::proofs::Lengths::unlike), unfolding(crate::specs::Signs::later_word_sign, crate::specs::Signs::last_word_sign))]
+fn sign_of_five(text: &[u8]) -> Sign
+    requires { length text.now ≡ 5 }
+    ensures sign { sign_of text.now result ≡ later_word_sign text.now }
+    ensures name { result ≡ Sign.Name → is_name text.now ≡ true }
+    ensures no_text { result ≡ Sign.Text → ⊥ }
+{
+    if text == b"count".as_slice() {
+        Sign::Around(Around::Count)
+    } else if text == b"false".as_slice() {
+        Sign::Truth(false)
+    } else {
+        name_sign(text)
+    }
+}
+
+// So it is with seven.
+#[tactic(auto, using(sig_base::proofs::Lengths::unlike), unfolding(crate::specs::Signs::later_word_sign, crate::specs::Signs::last_word_sign))]
+fn sign_of_seven(text: &[u8]) -> Sign
+    requires { length text.now ≡ 7 }
+    ensures sign { sign_of text.now result ≡ later_word_sign text.now }
     ensures name { result ≡ Sign.Name → is_name text.now ≡ true }
     ensures no_text { result ≡ Sign.Text → ⊥ }
 {
     if text == b"untrack".as_slice() {
         Sign::Around(Around::Untrack)
-    } else if text == b"count".as_slice() {
-        Sign::Around(Around::Count)
-    } else if text == b"sum".as_slice() {
-        Sign::OverRows(OverRows::Sum)
-    } else if text == b"keep".as_slice() {
-        Sign::OverRows(OverRows::Keep)
     } else {
-        last_word_sign(text)
+        name_sign(text)
     }
 }
 
-#[tactic(auto, unfolding(crate::specs::Signs::last_word_sign))]
-fn last_word_sign(text: &[u8]) -> Sign
-    ensures sign { sign_of text.now result ≡ last_word_sign text.now }
+// What a word is that is no operator: the words of each length are looked at apart.
+#[tactic(auto, using(sig_base::proofs::Lengths::unlike), unfolding(crate::specs::Signs::later_word_sign, crate::specs::Signs::last_word_sign))]
+fn later_word_sign(text: &[u8]) -> Sign
+    ensures sign { sign_of text.now result ≡ later_word_sign text.now }
     ensures name { result ≡ Sign.Name → is_name text.now ≡ true }
     ensures no_text { result ≡ Sign.Text → ⊥ }
 {
-    if text == b"it".as_slice() {
-        Sign::It
-    } else if text == b"true".as_slice() {
-        Sign::Truth(true)
-    } else if text == b"false".as_slice() {
-        Sign::Truth(false)
-    } else if is_name(text) {
-        Sign::Name
-    } else {
-        Sign::Other
+    match text.len() {
+        2 => sign_of_two(text),
+        3 => sign_of_three(text),
+        4 => sign_of_four(text),
+        5 => sign_of_five(text),
+        7 => sign_of_seven(text),
+        _ => name_sign(text),
     }
 }
 
@@ -113,22 +174,31 @@ fn symbol_sign(text: &[u8]) -> Sign
     }
 }
 
+// What a symbol of one byte is that is no operator.
 #[tactic(auto, unfolding(crate::specs::Signs::later_symbol_sign))]
+fn mark_sign(b: u8) -> Sign
+    ensures sign { sign_of (b ∷ []) result ≡ later_symbol_sign (b ∷ []) }
+    ensures no_name { result ≡ Sign.Name → ⊥ }
+    ensures no_text { result ≡ Sign.Text → ⊥ }
+{
+    match b {
+        b'(' => Sign::Open,
+        b')' => Sign::Close,
+        b',' => Sign::Comma,
+        b'.' => Sign::Dot,
+        _ => Sign::Other,
+    }
+}
+
+#[tactic(auto, using(sig_base::proofs::Lengths::unlike), unfolding(crate::specs::Signs::later_symbol_sign))]
 fn later_symbol_sign(text: &[u8]) -> Sign
     ensures sign { sign_of text.now result ≡ later_symbol_sign text.now }
     ensures no_name { result ≡ Sign.Name → ⊥ }
     ensures no_text { result ≡ Sign.Text → ⊥ }
 {
-    if text == b"(".as_slice() {
-        Sign::Open
-    } else if text == b")".as_slice() {
-        Sign::Close
-    } else if text == b",".as_slice() {
-        Sign::Comma
-    } else if text == b".".as_slice() {
-        Sign::Dot
-    } else {
-        Sign::Other
+    match text {
+        [b] => mark_sign(*b),
+        _ => Sign::Other,
     }
 }
 
