@@ -15,7 +15,6 @@ use crate::node::{Body, Computation, Node, Source};
 use crate::nodes::Nodes;
 use crate::seats::Seats;
 use sig_base::{NoMemory, NodeId, Outcome, Value};
-use std::alloc::Global;
 
 /// What lives at a place, none past the last place.
 pub(crate) fn body_at(nodes: &Nodes, id: NodeId) -> Option<&Body>
@@ -106,12 +105,12 @@ pub(crate) fn standing_at(nodes: &Nodes, id: NodeId) -> Standing
     }
 }
 
-/// Whether a computed there is computing.
-pub(crate) fn is_computing_at(nodes: &Nodes, id: NodeId) -> bool
-    ensures { result ≡ is_some (known_body (body_at nodes.now.items id)) }
+// Whether a computed lives in a body that is computing.
+fn is_computing(body: &Body) -> bool
+    ensures { result ≡ is_some (known_body body.now) }
 {
-    match body_at(nodes, id) {
-        Some(Body::Computed(computation)) => computation.is_computing(),
+    match body {
+        Body::Computed(computation) => computation.is_computing(),
         _ => false,
     }
 }
@@ -257,15 +256,17 @@ fn number_of(node: &Node) -> Option<u128>
     }
 }
 
-/// The present change numbers of these.
+/// The present change numbers of these, in place of what stood in `room`.
 pub(crate) fn numbers_now(
-    alloc: Global,
+    room: Vec<Option<u128>>,
     nodes: &Nodes,
     ids: &[NodeId],
 ) -> Result<Vec<Option<u128>>, NoMemory>
     ensures { IfOk result (λ v. v.items ≡ map (number_at nodes.now.items) ids.now) }
 {
-    let mut numbers = Vec::with_capacity(alloc, ids.len())?;
+    let mut numbers = room;
+    numbers.clear();
+    numbers.reserve_exact(ids.len())?;
     for id in ids {
         numbers.push(number_at(nodes, *id))?;
     }
@@ -289,12 +290,29 @@ pub(crate) fn differs(nodes: &Nodes, source: Source) -> bool
     !same_number(number_at(nodes, source.name), source.number)
 }
 
+// Whether a node has another number than the one that was read of it, or is computing.
+fn node_moved(node: &Node, number: Option<u128>) -> bool
+    ensures { result ≡ (not (same_number (number_body node.now.number node.now.body) number) || is_some (known_body node.now.body)) }
+{
+    !same_number(number_of(node), number) || is_computing(&node.body)
+}
+
+// Whether a source has another number than the one that was read, or is computing.
+fn source_moved(nodes: &Nodes, name: NodeId, number: Option<u128>) -> bool
+    ensures { result ≡ has_moved_body nodes.now.items (Some (record { name = name; number = number })) }
+{
+    match nodes.at(name) {
+        Some(node) => node_moved(node, number),
+        None => !same_number(None, number),
+    }
+}
+
 /// Whether a computed's kept source at a place has another number than the one that was read, or is computing.
 pub(crate) fn moved_at(nodes: &Nodes, id: NodeId, place: usize) -> bool
     ensures { result ≡ has_moved_body nodes.now.items (slice_get (sources_in (memo_body (body_at nodes.now.items id))) place) }
 {
     match source_at(nodes, id, place) {
-        Some(source) => differs(nodes, source) || is_computing_at(nodes, source.name),
+        Some(source) => source_moved(nodes, source.name, source.number),
         None => false,
     }
 }

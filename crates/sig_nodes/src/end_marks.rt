@@ -17,8 +17,11 @@ use sig_marks::Marks;
 fn is_marked_at(nodes: &Nodes, marks: &Marks, id: NodeId) -> bool
     ensures { result ≡ (is_computed_body (body_at nodes.now.items id) && marked_at marks.now.marked id) }
 {
+    if !marks.is_marked(id) {
+        return false;
+    }
     match computation_at(nodes, id) {
-        Some(_) => marks.is_marked(id),
+        Some(_) => true,
         None => false,
     }
 }

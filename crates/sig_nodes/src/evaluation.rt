@@ -11,9 +11,10 @@ use crate::bodies::{is_stale_at, moved_at, numbers_now};
 use crate::end_marks::{end_mark, run_unmarks, stop_unmarks};
 use crate::graph::Graph;
 use crate::links::relink;
-use crate::node::Memo;
+use crate::node::{Memo, take_room};
 use crate::store::{ask_at, begin_at, end_at, keep_memo_at};
 use sig_base::{Known, NoMemory, NodeId, Outcome};
+use std::mem;
 
 /// One counted step more.
 pub(crate) fn counted(looked: u128) -> u128
@@ -93,13 +94,15 @@ impl Graph {
         ensures seats { OnOk result (self.new.seats ≡ self.old.seats) }
     {
         let _count = self.nodes.made();
-        let numbers = numbers_now(self.alloc, &self.nodes, &reads)?;
+        let room = mem::replace(&mut self.room, Vec::new(self.alloc));
+        let numbers = numbers_now(room, &self.nodes, &reads)?;
         relink(&self.nodes, &mut self.marks, id, &reads)?;
         let unmarks = run_unmarks(&self.nodes, &self.marks, &outcome, &reads);
         end_mark(&mut self.marks, id, unmarks);
         self.worn += 1;
         let memo = Memo::new(outcome, reads, numbers, self.generation);
-        keep_memo_at(&mut self.nodes, id, memo);
+        let former = keep_memo_at(&mut self.nodes, id, memo);
+        take_room(&mut self.room, former);
         Ok(())
     }
 

@@ -36,6 +36,8 @@ pub struct Graph {
     pub(crate) finds: Finds,
     pub(crate) reached: Reached,
     pub(crate) trail: Trail,
+    // where the numbers of the next run are put: it held those of a memo that is kept no more
+    pub(crate) room: Vec<Option<u128>>,
 }
 
 impl Drop for Graph {
@@ -51,6 +53,7 @@ impl Drop for Graph {
             finds: _,
             reached: _,
             trail: _,
+            room: _,
         } = self;
     }
 }
@@ -90,6 +93,7 @@ impl Graph {
             finds: Finds::new(alloc)?,
             reached: Reached::new(alloc)?,
             trail: Trail::new(alloc)?,
+            room: Vec::new(alloc),
         })
     }
 

@@ -22,6 +22,10 @@ use sig_formula::{Formula, Paused};
 use signal_model::judged;
 use std::alloc::Global;
 use std::marker::Model;
+use std::mem;
+
+// Of how many numbers at most what held them is used again, so that no computed holds much more than it needs.
+const MOST_ROOM: usize = 8;
 
 /// A source that was read, with its change number at that time, none for gone.
 #[derive(Clone, Copy)]
@@ -127,6 +131,16 @@ impl Memo {
         ensures { self.new ≡ record self.old { rewired = true } }
     {
         self.rewired = true;
+    }
+}
+
+/// Takes what held the numbers of a memo that is kept no more for those of another run, where there was such a memo and it had few.
+pub(crate) fn take_room(room: &mut Vec<Option<u128>>, former: Option<Memo>) {
+    let Some(memo) = former else {
+        return;
+    };
+    if memo.numbers.capacity() <= MOST_ROOM {
+        *room = memo.numbers;
     }
 }
 
@@ -319,12 +333,12 @@ impl Computation {
         }
     }
 
-    /// Keeps a run, which ends the evaluation.
-    pub(crate) fn keep(&mut self, memo: Memo)
+    /// Keeps a run, which ends the evaluation, and gives the memo of before.
+    pub(crate) fn keep(&mut self, memo: Memo) -> Option<Memo>
         ensures { self.new ≡ record self.old { memo = Some memo; known = None } }
     {
-        self.memo = Some(memo);
         self.computing = false;
+        mem::replace(&mut self.memo, Some(memo))
     }
 
     /// Gives another recipe.

@@ -37,8 +37,8 @@ pub(crate) fn set_value_at(nodes: &mut Nodes, id: NodeId, value: Value) -> Value
     set_value(nodes.node_mut(id), value)
 }
 
-// Keeps a run in a computed's node, whose number rises where the outcome is another.
-fn keep_memo(node: &mut Node, memo: Memo)
+// Keeps a run in a computed's node, whose number rises where the outcome is another, and gives the memo of before.
+fn keep_memo(node: &mut Node, memo: Memo) -> Option<Memo>
     requires live { is_computed_body node.old.body ≡ true }
     requires worn { node.old.number + 1 < 2 ^ 128 }
     ensures { node.new ≡ run_node memo node.old }
@@ -48,19 +48,19 @@ fn keep_memo(node: &mut Node, memo: Memo)
             if !computation.has_outcome(memo.outcome()) {
                 node.number += 1;
             }
-            computation.keep(memo);
+            computation.keep(memo)
         }
         _ => unreachable!(),
     }
 }
 
-/// Keeps a run of a computed, which ends its evaluation.
-pub(crate) fn keep_memo_at(nodes: &mut Nodes, id: NodeId, memo: Memo)
+/// Keeps a run of a computed, which ends its evaluation, and gives the memo of before.
+pub(crate) fn keep_memo_at(nodes: &mut Nodes, id: NodeId, memo: Memo) -> Option<Memo>
     requires live { is_computed_body (body_at nodes.old.items id) ≡ true }
     requires worn { change_at nodes.old.items id + 1 < 2 ^ 128 }
     ensures { nodes.new.items ≡ changed_at (run_node memo) id nodes.old.items }
 {
-    keep_memo(nodes.node_mut(id), memo);
+    keep_memo(nodes.node_mut(id), memo)
 }
 
 // Gives a computed's node another recipe.
