@@ -2,4 +2,6 @@ mod Names
 mod Slots
 mod Wanted
 mod Asks
+mod Still
 mod Looks
+pub mod Shared

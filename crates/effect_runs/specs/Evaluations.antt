@@ -1,11 +1,16 @@
 -- What a body is evaluated to.
-use Rattle.std.specs.Prelude.{◌≡◌, ℕ, ◌≤◌, Bool, true, false, List, length}
+use Rattle.std.specs.Prelude.{◌≡◌, ℕ, ◌≤◌, Bool, true, false, List, length, Option, Some, None}
 use Rattle.sig_base.specs.declared.value.Value.{Value}
 use Rattle.sig_base.specs.declared.value.Known.{Known}
-use Rattle.signal_model.specs.Values.{learnt}
+use Rattle.sig_base.specs.declared.value.Outcome.{Outcome}
+use Rattle.sig_base.specs.declared.value.Outcome.TheVariants.{Bad, Good}
+use Rattle.sig_base.specs.Values.{same_value}
+use Rattle.signal_model.specs.Signals.{Signals, standing}
+use Rattle.signal_model.specs.Values.{Seen, learnt}
 use Rattle.effect_model.specs.Bodies as model
 use Rattle.effect_model.specs.Bodies.{BodyEvaluation, BodyResult, to_do, failed_by}
 use Rattle.effect_laws.specs.Asks.{AreFit}
+use Rattle.sig_nodes.specs.Answers.{value_here}
 use Rattle.sig_untrack.specs.declared.body.Body.{Body}
 use Rattle.sig_untrack.specs.Stated.{before, no_bodies, statements_of}
 use Rattle.sig_untrack.specs.Links.{Parts, acts_of, linked}
@@ -40,3 +45,13 @@ pub record IsRunOf (p : Parts) (e : BodyEvaluation) (r : BodyRun) : Type 0 where
 abbrev pub learnt_if : Bool → List Known → ℕ → Value → List Known
 learnt_if true known s v = learnt known s v
 learnt_if false known s v = known
+
+-- whether a cell has the value that an outcome is
+abbrev pub has_value : Option Value → Outcome → Bool
+has_value (Some v) (Good u) = same_value v u
+has_value (Some v) (Bad e) = false
+has_value None o = false
+
+-- whether what was read is a cell that has the value still that was read
+abbrev pub is_still : Signals → Seen → Bool
+is_still w s = has_value (value_here (standing w s.name)) s.outcome

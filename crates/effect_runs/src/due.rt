@@ -1,17 +1,40 @@
 // Whether an effect is due.
 ghost use Rattle.std.specs.Prelude.{◌≡◌, [], IfOk, OnOk};
+ghost use Rattle.std.specs.List.{list_all};
 ghost use Rattle.std.specs.Option.{option_copied};
 ghost use Rattle.signal_model.specs.Recipes.{Hosts};
 ghost use Rattle.signal_model.specs.Values.{value_of};
 ghost use Rattle.signal_model.specs.Kept.{AreKept};
 ghost use Rattle.effect_model.specs.Runs.{is_effect_due, looked_at, looked_names, some_differs};
 ghost use Rattle.sig_computed.specs.Scenes.{scene, CanSettle, Settles};
+ghost use Rattle.effect_runs.specs.Evaluations.{is_still};
 
-use sig_base::NoMemory;
+use sig_base::{NoMemory, Outcome};
 use sig_computed::{RunNote, settle};
 use sig_host::{Lent, Shelf};
 use sig_nodes::Graph;
 use sig_untrack::Read;
+
+// Whether what was read is a cell that has the value still that was read. It is looked at where it stands.
+fn is_still(graph: &Graph, read: &Read) -> bool
+    ensures { result ≡ is_still graph.now.state.signals read.now }
+{
+    let Some(value) = graph.cell_value(read.id) else {
+        return false;
+    };
+    match &read.outcome {
+        Outcome::Good(kept) => value.same(kept),
+        Outcome::Bad(_) => false,
+    }
+}
+
+/// Whether each of these reads is of a cell that has the value still that was read. They are looked at where they stand: nothing is settled, and
+/// no value is copied.
+pub fn are_still(graph: &Graph, reads: &[Read]) -> bool
+    ensures { result ≡ list_all (is_still graph.now.state.signals) reads.now }
+{
+    reads.iter().all(|read| is_still(graph, read))
+}
 
 // Settles what was read up to the first signal that has another outcome now; whether there is one.
 fn look_at(
@@ -42,7 +65,8 @@ fn look_at(
 }
 
 /// Whether an effect is due, by what it keeps of its last run: where it has never run, or where a signal that it read, tracked, has another
-/// outcome now. What it read is settled in order, up to the first that differs, and nothing else is.
+/// outcome now. What it read is settled in order, up to the first that differs, and nothing else is. Where all that it read are cells that
+/// have their values still, there is nothing to settle, and no value is copied.
 ///
 /// # Errors
 ///
@@ -67,6 +91,9 @@ pub fn look(
     let Some(reads) = kept else {
         return Ok(true);
     };
+    if are_still(graph, reads) {
+        return Ok(false);
+    }
     let differs = look_at(graph, shelf, reads, notes)?;
     Ok(differs)
 }

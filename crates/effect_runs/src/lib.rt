@@ -5,6 +5,6 @@ mod due;
 mod evaluate;
 mod run;
 
-pub use due::look;
+pub use due::{are_still, look};
 pub use evaluate::evaluate_body;
 pub use run::{BodyEnd, BodyRun};

@@ -1,0 +1,4 @@
+-- What crates above may cite of these proofs. All else in this folder is this crate's own.
+
+-- cells that have the values still that were read
+pub use Rattle.effect_runs.proofs.Still.{still_none, still_settled}
