@@ -1,21 +1,27 @@
 // The names that were made.
-ghost use Rattle.std.specs.Prelude.{◌≡◌, ◌++◌, ◌∷◌, [], None, OnOk};
+ghost use Rattle.std.specs.Prelude.{◌≡◌, ◌++◌, ◌∷◌, [], None, Some, IfSome, OnOk};
 ghost use Rattle.live_model.specs.Names.{meaning_of, number_of};
 
 use indexmap::IndexMap;
 use live_model::{Kind, Meaning};
 use sig_base::{Name, NoMemory};
 use std::alloc::Global;
+use std::cell::Cell;
 use std::marker::Model;
 
-/// The names that were made and what they stand for, in order of making.
+/// The names that were made and what they stand for, in order of making, and the place of the one that was found last: a command looks its name up to
+/// be judged and again to be done, and the second time it isn't searched for.
 pub struct Names {
     meanings: IndexMap<Name, Meaning>,
+    last: Cell<usize>,
 }
 
 impl Drop for Names {
     fn drop(self) {
-        let Names { meanings: _ } = self;
+        let Names {
+            meanings: _,
+            last: _,
+        } = self;
     }
 }
 
@@ -34,14 +40,31 @@ impl Names {
     {
         Names {
             meanings: IndexMap::new(alloc),
+            last: Cell::new(0),
         }
+    }
+
+    // What a name stands for, if it is the one that was found last.
+    fn meant_last(&self, name: &Name) -> Option<Meaning>
+        ensures { IfSome result (λ m. meaning_of self.now name.now ≡ Some m) }
+    {
+        let (known, meaning) = self.meanings.get_index(self.last.get())?;
+        if known == name {
+            return Some(*meaning);
+        }
+        None
     }
 
     /// What a name stands for, if it was made.
     pub fn meaning_of(&self, name: &Name) -> Option<Meaning>
         ensures { result ≡ meaning_of self.now name.now }
     {
-        self.meanings.get(name).copied()
+        if let Some(meaning) = self.meant_last(name) {
+            return Some(meaning);
+        }
+        let (place, _, meaning) = self.meanings.get_full(name)?;
+        self.last.set(place);
+        Some(*meaning)
     }
 
     /// The number of what a name stands for, 0 for a name that wasn't made.
