@@ -29,6 +29,11 @@ use Rattle.live_core.specs.Doing.{Did}
 use Rattle.live_core.specs.Views.{plain_of}
 use Rattle.live_core.proofs.Shared.{neither}
 
+-- an answer with none behind it
+pub alone : {A : Type 0} (o : Option A) → o ≡ option_or (option_or o None) None
+alone None = refl
+alone (Some a) = refl
+
 -- the first of two answers
 pub first_of : {A : Type 0} (a b : Option A) (r : A) → Some r ≡ a → Some r ≡ option_or a b
 first_of a b r is = ap (λ o. option_or o b) is

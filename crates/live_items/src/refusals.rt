@@ -1,8 +1,9 @@
 // Why commands are refused, in this order: that a batch is open or none is, the names, the places of host formulas and rules, what the rows of a
 // list or the journal don't allow or isn't there on a page or among the lines of a template, what there would be too much of, and a signal that isn't
 // watched.
-ghost use Rattle.std.specs.Prelude.{◌≡◌, ℕ, Bool, List, None, Some, IfOk, if◌then◌else◌, is_some, length, map, slice_get};
+ghost use Rattle.std.specs.Prelude.{◌≡◌, ◌∷◌, [], ℕ, Bool, List, None, Some, IfOk, if◌then◌else◌, is_some, length, map, slice_get};
 ghost use Rattle.std.specs.List.{filter};
+ghost use Rattle.std.specs.Option.{option_or};
 ghost use Rattle.signal_model.specs.Memos.{memo_of};
 ghost use Rattle.signal_model.specs.Sound.{kept_outcome};
 ghost use Rattle.effect_model.specs.Watchers.{watches};
@@ -21,7 +22,7 @@ ghost use Rattle.live_model.specs.Machine.{batch_refusal, can_tell_why, is_done_
 ghost use Rattle.live_model.specs.Machine.{body_refusal, host_refusal, later_refusal, name_refusal};
 ghost use Rattle.live_model.specs.Machine.{one_too_many, outside_refusal, over_limit, place_refusal, refusal_of};
 ghost use Rattle.live_model.specs.Machine.{page_at, row_refusal, rule_refusal, taken_refusal, unwatch_refusal};
-ghost use Rattle.live_model.specs.Names.{first_within, number_of};
+ghost use Rattle.live_model.specs.Names.{first_refusal, first_within, number_of};
 ghost use Rattle.live_model.specs.Pages.{tag_in, template_in};
 ghost use Rattle.live_model.specs.Rows.{edit_refusal, rows_at};
 ghost use Rattle.live_model.specs.Uses.{hosts_of_body, uses_of_body};
@@ -40,8 +41,9 @@ use live_cmd::{Bare, Command, EffectBody, RowEdit, SourceText, Verb};
 use live_core::{Machine, edit_refusal};
 use live_entries::{LimitWord, Refusal};
 use live_labels::named_count;
+use live_model::{Kind, Need};
 use live_pages::{LinkedTemplate, Mounted, page_among, template_among};
-use live_uses::{hosts_of_body, uses_of, uses_of_body};
+use live_uses::{Use, hosts_of_body, need_of, uses_of, uses_of_body};
 use live_why::Recorder;
 use sig_base::{MOST_NODES, MOST_PAGES, MOST_TEMPLATES, Name, NoMemory, NodeId, PageId, WatcherId};
 use sig_host::{EqualsRule, Lent, Shelf};
@@ -273,8 +275,18 @@ fn body_refusal(machine: &Machine, command: &Command) -> Result<Option<Refusal>,
     }
 }
 
-// The refusal of the first name that has one.
-fn name_refusal(machine: &Machine, command: &Command) -> Result<Option<Refusal>, NoMemory>
+// The refusal of the name of a command that names nothing else.
+fn only_refusal(machine: &Machine, name: &Name, need: Need) -> Result<Option<Refusal>, NoMemory>
+    ensures { (asked : List HostPlace) → IfOk result (λ r. r
+        ≡ option_or (first_refusal (whole_of asked machine.now.world) machine.now.names ((name.now, need) ∷ [])) None) }
+{
+    let used = Use { name, need };
+    let refusal = machine.names.refusal_of(&machine.world, &used)?;
+    Ok(refusal)
+}
+
+// The refusal of the first of the listed names of a command that has one.
+fn listed_refusal(machine: &Machine, command: &Command) -> Result<Option<Refusal>, NoMemory>
     ensures { (asked : List HostPlace) → IfOk result (λ r. r ≡ name_refusal (plain_of asked machine.now) command.now) }
 {
     let uses = uses_of(machine.alloc, command)?;
@@ -283,6 +295,30 @@ fn name_refusal(machine: &Machine, command: &Command) -> Result<Option<Refusal>,
     }
     let refusal = body_refusal(machine, command)?;
     Ok(refusal)
+}
+
+// The refusal of the first name that has one. What the commonest commands name is judged without a list.
+fn name_refusal(machine: &Machine, command: &Command) -> Result<Option<Refusal>, NoMemory>
+    ensures { (asked : List HostPlace) → IfOk result (λ r. r ≡ name_refusal (plain_of asked machine.now) command.now) }
+{
+    match command {
+        Command::Set { name, .. } => {
+            let refusal = only_refusal(machine, name, Need::Of(Kind::Cell))?;
+            Ok(refusal)
+        }
+        Command::Edit { name, .. } => {
+            let refusal = only_refusal(machine, name, Need::Of(Kind::List))?;
+            Ok(refusal)
+        }
+        Command::Named { verb, name } => {
+            let refusal = only_refusal(machine, name, need_of(*verb))?;
+            Ok(refusal)
+        }
+        _ => {
+            let refusal = listed_refusal(machine, command)?;
+            Ok(refusal)
+        }
+    }
 }
 
 // The refusal of an edit that the rows of a list don't allow.

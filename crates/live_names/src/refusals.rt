@@ -78,6 +78,14 @@ fn own_refusal(used: &Use) -> Result<Option<Refusal>, NoMemory>
 }
 
 impl Names {
+    /// Why a name is refused at its place, if it is.
+    pub fn refusal_of(&self, world: &World, used: &Use) -> Result<Option<Refusal>, NoMemory>
+        ensures { (asked : List HostPlace) → IfOk result (λ r. r ≡ refusal_at (whole_of asked world.now) (use_of used.now) (meaning_of self.now (use_of used.now).0)) }
+    {
+        let refusal = refusal_at(world, used, self.meaning_of(used.name))?;
+        Ok(refusal)
+    }
+
     // Why a name is refused in the body of an effect, if it is.
     fn refusal_within(
         &self,
@@ -91,7 +99,7 @@ impl Names {
             let refusal = own_refusal(used)?;
             return Ok(refusal);
         }
-        let refusal = refusal_at(world, used, self.meaning_of(used.name))?;
+        let refusal = self.refusal_of(world, used)?;
         Ok(refusal)
     }
 
@@ -100,7 +108,7 @@ impl Names {
         ensures { (asked : List HostPlace) → IfOk result (λ r. r ≡ first_refusal (whole_of asked world.now) self.now (map use_of uses.now)) }
     {
         for used in uses {
-            if let Some(refusal) = refusal_at(world, used, self.meaning_of(used.name))? {
+            if let Some(refusal) = self.refusal_of(world, used)? {
                 return Ok(Some(refusal));
             }
         }

@@ -39,8 +39,8 @@ fn put_inside<'a>(uses: &mut Vec<Use<'a>>, inside: &'a Option<Name>) -> Result<(
     }
 }
 
-// What the name of a verb has to be.
-fn need_of(verb: Verb) -> Need
+/// What the name of a verb has to be.
+pub fn need_of(verb: Verb) -> Need
     ensures { result ≡ need_of verb }
 {
     match verb {

@@ -8,6 +8,6 @@ mod slots;
 mod uses;
 
 pub use bodies::uses_of_body;
-pub use commands::uses_of;
+pub use commands::{need_of, uses_of};
 pub use hosts::hosts_of_body;
 pub use uses::Use;

@@ -3,7 +3,7 @@ use Rattle.effect_world.specs.Wholes.{whole_of}
 use Rattle.live_model.specs.Names.{first_refusal}
 use Rattle.live_uses.specs.Views.{use_of}
 use Rattle.live_items.proofs.Refused.{first_of, last_of}
-use Rattle.live_items.proofs.refusals.name_refusal.Goals as goal
+use Rattle.live_items.proofs.refusals.listed_refusal.Goals as goal
 
 pub returns-in-Some : goal.returns-in-Some
 returns-in-Some c = λ asked.

@@ -3,7 +3,7 @@ use Rattle.std.specs.Option.{option_or}
 use Rattle.std.proofs.lemmas.List.{drop_all, drop_more}
 use Rattle.effect_world.specs.Wholes.{whole_of}
 use Rattle.live_entries.specs.declared.refusal.Refusal.{Refusal}
-use Rattle.live_model.specs.Names.{first_refusal, refusal_at}
+use Rattle.live_model.specs.Names.{first_refusal}
 use Rattle.live_uses.specs.declared.uses.Use.{Use}
 use Rattle.live_uses.specs.Views.{use_of}
 use Rattle.live_names.proofs.Nones.{none_if}
@@ -17,7 +17,7 @@ returns-in-Some c = λ asked.
     let rest = drop (c.loop-used.used-index + 1) us in
     let here = drop_more us c.loop-used.used-index c.used-item.result c.loop-used-test.true ∙ ap (λ (x : Use). x ∷ rest) (sym c.used-item.is) in
     sym (c.loop-used.invariant asked ∙ ap (λ (xs : List Use). first_refusal w names (map use_of xs)) here
-    ∙ ap (λ (o : Option Refusal). option_or o (first_refusal w names (map use_of rest))) (sym (c.in_ok-refusal.ensures asked ∙ ap (refusal_at w (use_of c.used-item.result)) c.meaning_of.ensures) ∙ c.in-Some.is))
+    ∙ ap (λ (o : Option Refusal). option_or o (first_refusal w names (map use_of rest))) (sym (c.in_ok-refusal.ensures asked) ∙ c.in-Some.is))
 
 pub loop-used-preserved : goal.loop-used-preserved
 loop-used-preserved c = λ asked.
@@ -27,7 +27,7 @@ loop-used-preserved c = λ asked.
     let rest = drop (c.loop-used.used-index + 1) us in
     let here = drop_more us c.loop-used.used-index c.used-item.result c.loop-used-test.true ∙ ap (λ (x : Use). x ∷ rest) (sym c.used-item.is) in
     c.loop-used.invariant asked ∙ ap (λ (xs : List Use). first_refusal w names (map use_of xs)) here
-    ∙ ap (λ (o : Option Refusal). option_or o (first_refusal w names (map use_of rest))) (sym (c.in_ok-refusal.ensures asked ∙ ap (refusal_at w (use_of c.used-item.result)) c.meaning_of.ensures) ∙ none_if c.in_ok-refusal.field-0 c.in_default.not-Some)
+    ∙ ap (λ (o : Option Refusal). option_or o (first_refusal w names (map use_of rest))) (sym (c.in_ok-refusal.ensures asked) ∙ none_if c.in_ok-refusal.field-0 c.in_default.not-Some)
 
 pub returns : goal.returns
 returns c = λ asked.
