@@ -29,11 +29,18 @@ summary_item n counts next page i e is es =
     ap (λ t. summary_text n t (page_after page es)) (ap (λ t. added t (counts_of is es)) e ∙ counts_more counts (i ∷ []) is [] es)
 
 -- what it tells
-pub summary_entries : (n : ℕ) (counts next : Counts) (page last : List ℕ) (told : List Entry) → next ≡ added counts (counts_of [] told) → last ≡ page_after page told → (is : List Item) (es : List Entry) → still (report.Summary n next last) is es ≡ still (report.Summary n counts page) is (told ++ es)
+summary_entries : (n : ℕ) (counts next : Counts) (page last : List ℕ) (told : List Entry) → next ≡ added counts (counts_of [] told) → last ≡ page_after page told → (is : List Item) (es : List Entry) → still (report.Summary n next last) is es ≡ still (report.Summary n counts page) is (told ++ es)
 unfolding still
 summary_entries n counts next page last told e f is es =
     ap (λ t. summary_text n t (page_after last es)) (ap (λ t. added t (counts_of is es)) e ∙ counts_more counts [] is told es)
     ∙ ap (λ p. summary_text n (added counts (counts_of is (told ++ es))) p) (ap (λ p. page_after p es) f ∙ page_more page told es)
+
+-- nothing is printed of it now
+pub summary_behind : (n : ℕ) (counts next : Counts) (page last old new : List ℕ) (told : List Entry) → new ≡ old → next ≡ added counts (counts_of [] told) → last ≡ page_after page told →
+    (is : List Item) (es : List Entry) → new ++ still (report.Summary n next last) is es ≡ old ++ still (report.Summary n counts page) is (told ++ es)
+summary_behind n counts next page last old new told same e f is es =
+    ap (λ (l : List ℕ). l ++ still (report.Summary n next last) is es) same
+    ∙ ap (λ (l : List ℕ). old ++ l) (summary_entries n counts next page last told e f is es)
 
 pub lines_entries : (trace : Bool) (old new : List ℕ) (told : List Entry) → new ≡ old ++ flat_map (printed trace) told → (is : List Item) (es : List Entry) → new ++ still (report.Lines trace) is es ≡ old ++ still (report.Lines trace) is (told ++ es)
 unfolding still

@@ -1,5 +1,5 @@
 // Counting items and entries as they come.
-ghost use Rattle.std.specs.Prelude.{◌≡◌, ◌≤◌, ◌+◌, ◌<◌, ◌^◌, [], ◌∷◌, IfOk, if◌then◌else◌};
+ghost use Rattle.std.specs.Prelude.{◌≡◌, ◌≤◌, ◌+◌, ◌<◌, ◌^◌, [], ◌∷◌, OnOk, if◌then◌else◌};
 ghost use Rattle.std.specs.List.{count_by};
 ghost use Rattle.live_report.specs.Counts.{added, counts_of, is_command, is_op, is_run, page_after, page_with};
 
@@ -99,23 +99,25 @@ pub fn with_entries(counts: Counts, entries: &[Entry]) -> Counts
     }
 }
 
-// The page as an entry tells it, or else this one.
-fn page_with(page: PageBytes, entry: &Entry) -> Result<PageBytes, NoMemory>
-    ensures { IfOk result (λ p. p ≡ page_with page entry.now) }
+// Takes the page as an entry tells it, if it does.
+fn turn_to(page: &mut PageBytes, entry: &Entry) -> Result<(), NoMemory>
+    ensures { OnOk result (page.new ≡ page_with page.old entry.now) }
 {
     match entry {
-        Entry::Page(_, told) => told.copy(),
-        _ => Ok(page),
+        Entry::Page(_, told) => {
+            *page = told.copy()?;
+            Ok(())
+        }
+        _ => Ok(()),
     }
 }
 
-/// The page that is told last, or else this one.
-pub fn page_after(page: PageBytes, entries: &[Entry]) -> Result<PageBytes, NoMemory>
-    ensures { IfOk result (λ p. p ≡ page_after page entries.now) }
+/// Takes the page that is told last, if one is.
+pub fn turn_page(page: &mut PageBytes, entries: &[Entry]) -> Result<(), NoMemory>
+    ensures { OnOk result (page.new ≡ page_after page.old entries.now) }
 {
-    let mut last = page;
     for entry in entries {
-        last = page_with(last, entry)?;
+        turn_to(page, entry)?;
     }
-    Ok(last)
+    Ok(())
 }

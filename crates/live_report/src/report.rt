@@ -6,7 +6,7 @@ ghost use Rattle.live_entries.specs.declared.entry.Entry.{Entry as AnEntry};
 ghost use Rattle.live_entries.specs.Printed.{printed, IsSizedEntry};
 ghost use Rattle.live_report.specs.Reports.{counted, output_of, still};
 
-use crate::counters::{no_counts, page_after, with_entries, with_item};
+use crate::counters::{no_counts, turn_page, with_entries, with_item};
 use bench_workload::{Counts, put_summary};
 use live_cmd::Item;
 use live_entries::{Entry, PageBytes, entry_line};
@@ -44,12 +44,15 @@ fn put_entries(out: &mut Vec<u8>, entries: &[Entry], trace: bool) -> Result<(), 
     Ok(())
 }
 
-// Makes the lines that a run prints and lets them go, so that a workload does all that a run does.
-fn make_lines(alloc: Global, entries: &[Entry]) -> Result<(), NoMemory>
-    ensures { OnOk result (AllByRecursion IsSizedEntry entries.now) }
+// Makes the lines that a run prints behind the output and lets them go, so that a workload does all that a run does.
+fn make_lines(out: &mut Vec<u8>, entries: &[Entry]) -> Result<(), NoMemory>
+    ensures same { OnOk result (out.new.items ≡ out.old.items) }
+    ensures sized { OnOk result (AllByRecursion IsSizedEntry entries.now) }
 {
-    let mut lines = Vec::new(alloc);
-    put_entries(&mut lines, entries, false)
+    let length = out.len();
+    put_entries(out, entries, false)?;
+    out.truncate(length);
+    Ok(())
 }
 
 impl Report {
@@ -77,60 +80,46 @@ impl Report {
         }
     }
 
-    /// The report with one more item, before what it tells is known.
+    /// Takes in one more item, before what it tells is known.
     #[tactic(auto, unfolding(crate::specs::Reports::still, crate::specs::Reports::counted))]
-    pub fn with_item(self, item: &Item) -> Report
-        requires { counted self < 2 ^ 127 }
-        ensures prints { (is : List AnItem) (es : List AnEntry) → still result is es ≡ still self (item.now ∷ is) es }
-        ensures counted { counted result ≤ counted self + 1 }
+    pub fn take_item(&mut self, item: &Item)
+        requires { counted self.old < 2 ^ 127 }
+        ensures prints { (is : List AnItem) (es : List AnEntry) → still self.new is es ≡ still self.old (item.now ∷ is) es }
+        ensures counted { counted self.new ≤ counted self.old + 1 }
     {
         match self {
-            Report::Lines { trace } => Report::Lines { trace },
-            Report::Summary {
-                rounds,
-                counts,
-                page,
-            } => Report::Summary {
-                rounds,
-                counts: with_item(counts, item),
-                page,
-            },
-            Report::Frames { told } => Report::Frames { told },
+            Report::Lines { .. } => {}
+            Report::Summary { counts, .. } => *counts = with_item(*counts, item),
+            Report::Frames { .. } => {}
         }
     }
 
-    /// The report with what an item told. Lines or frames that are printed of it now are appended.
+    /// Takes in what an item told. Lines or frames that are printed of it now are appended.
     ///
     /// # Errors
     ///
-    /// `NoMemory` where it finds no room; the report is gone, and a front of them may be appended.
+    /// `NoMemory` where it finds no room; a front of them may be appended, and the report serves no more.
     #[tactic(auto, unfolding(crate::specs::Reports::still, crate::specs::Reports::counted))]
-    pub fn with_entries(self, out: &mut Vec<u8>, entries: &[Entry]) -> Result<Report, NoMemory>
-        requires { counted self < 2 ^ 127 }
-        ensures prints { IfOk result (λ r. (is : List AnItem) (es : List AnEntry) → out.new.items ++ still r is es ≡ out.old.items ++ still self is (entries.now ++ es)) }
+    pub fn take_entries(&mut self, out: &mut Vec<u8>, entries: &[Entry]) -> Result<(), NoMemory>
+        requires { counted self.old < 2 ^ 127 }
+        ensures prints { OnOk result ((is : List AnItem) (es : List AnEntry) → out.new.items ++ still self.new is es ≡ out.old.items ++ still self.old is (entries.now ++ es)) }
         ensures sized { OnOk result (AllByRecursion IsSizedEntry entries.now) }
-        ensures counted { IfOk result (λ r. counted r ≤ counted self + 2 ^ 64) }
+        ensures counted { OnOk result (counted self.new ≤ counted self.old + 2 ^ 64) }
     {
         match self {
             Report::Lines { trace } => {
-                put_entries(out, entries, trace)?;
-                Ok(Report::Lines { trace })
+                put_entries(out, entries, *trace)?;
+                Ok(())
             }
-            Report::Summary {
-                rounds,
-                counts,
-                page,
-            } => {
-                make_lines(*out.allocator(), entries)?;
-                Ok(Report::Summary {
-                    rounds,
-                    counts: with_entries(counts, entries),
-                    page: page_after(page, entries)?,
-                })
+            Report::Summary { counts, page, .. } => {
+                make_lines(out, entries)?;
+                *counts = with_entries(*counts, entries);
+                turn_page(page, entries)?;
+                Ok(())
             }
-            Report::Frames { mut told } => {
+            Report::Frames { told } => {
                 told.put_entries(out, entries)?;
-                Ok(Report::Frames { told })
+                Ok(())
             }
         }
     }

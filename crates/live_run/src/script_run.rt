@@ -77,10 +77,9 @@ impl ScriptRun {
         ensures done { OnOk result (self.new.live.done ≡ self.old.live.done + 1) }
         ensures little { OnOk result (counted self.new.report ≤ counted self.old.report + (1 + 2 ^ 64)) }
     {
-        let report = mem::replace(&mut self.report, Report::Lines { trace: false });
-        let report = report.with_item(&item);
+        self.report.take_item(&item);
         let told = self.live.do_command(item)?;
-        self.report = report.with_entries(&mut self.out, &told)?;
+        self.report.take_entries(&mut self.out, &told)?;
         Ok(())
     }
 
