@@ -1,5 +1,5 @@
 // What is told of events, each by the labels of its moment.
-ghost use Rattle.std.specs.Prelude.{◌≡◌, ◌++◌, List, IfOk, OnOk, map, option_map, option_to_list};
+ghost use Rattle.std.specs.Prelude.{◌≡◌, ◌++◌, ◌∷◌, [], List, IfOk, OnOk, map, option_map, option_to_list};
 ghost use Rattle.effect_model.specs.Worlds as plain;
 ghost use Rattle.effect_tables.specs.Bodies.{thing_of};
 ghost use Rattle.sig_computed.specs.Notes.{note_of};
@@ -48,13 +48,21 @@ fn run_entry(alloc: Global, names: &[Name], note: &RunNote) -> Result<Entry, NoM
     Ok(Entry::Run(name, reads, outcome))
 }
 
+// Puts what is told of a run behind what was told.
+fn put_run(told: &mut Vec<Entry>, names: &[Name], note: &RunNote) -> Result<(), NoMemory>
+    ensures { OnOk result (told.new.items ≡ told.old.items ++ note_entry names.now (note_of note.now) ∷ []) }
+{
+    let entry = run_entry(*told.allocator(), names, note)?;
+    told.push(entry)?;
+    Ok(())
+}
+
 // Puts what is told of runs behind what was told.
 fn put_runs(told: &mut Vec<Entry>, names: &[Name], notes: &[RunNote]) -> Result<(), NoMemory>
     ensures { OnOk result (told.new.items ≡ told.old.items ++ map (note_entry names.now) (map note_of notes.now)) }
 {
     for note in notes {
-        let entry = run_entry(*told.allocator(), names, note)?;
-        told.push(entry)?;
+        put_run(told, names, note)?;
     }
     Ok(())
 }
@@ -238,8 +246,8 @@ fn put_some(told: &mut Vec<Entry>, entry: Option<Entry>) -> Result<(), NoMemory>
     }
 }
 
-// Tells of an event, and what is called otherwise from then on.
-fn tell_one(told: &mut Vec<Entry>, labels: &mut Labels, event: &Event) -> Result<(), NoMemory>
+// Tells of an event, and what is called otherwise from then on, whatever event it is.
+fn tell_any(told: &mut Vec<Entry>, labels: &mut Labels, event: &Event) -> Result<(), NoMemory>
     ensures entries { OnOk result (told.new.items ≡ told.old.items ++ entries_told (labels_of labels.old) event.now) }
     ensures labels { OnOk result (labels_of labels.new ≡ renamed event.now (labels_of labels.old)) }
     ensures names { KeepsNames labels.old labels.new }
@@ -249,6 +257,24 @@ fn tell_one(told: &mut Vec<Entry>, labels: &mut Labels, event: &Event) -> Result
     put_some(told, entry)?;
     rename(alloc, labels, event)?;
     Ok(())
+}
+
+// Tells of an event, and what is called otherwise from then on. Most events are runs, of which nothing is called otherwise.
+fn tell_one(told: &mut Vec<Entry>, labels: &mut Labels, event: &Event) -> Result<(), NoMemory>
+    ensures entries { OnOk result (told.new.items ≡ told.old.items ++ entries_told (labels_of labels.old) event.now) }
+    ensures labels { OnOk result (labels_of labels.new ≡ renamed event.now (labels_of labels.old)) }
+    ensures names { KeepsNames labels.old labels.new }
+{
+    match event {
+        Event::Run(note) => {
+            put_run(told, &labels.signals, note)?;
+            Ok(())
+        }
+        _ => {
+            tell_any(told, labels, event)?;
+            Ok(())
+        }
+    }
 }
 
 // Tells of events, one by one, each by the labels of its moment.
