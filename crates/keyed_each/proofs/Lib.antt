@@ -1,3 +1,4 @@
 pub mod Distinct
 pub mod Keys
 mod Leads
+mod Order

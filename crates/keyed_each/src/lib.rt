@@ -2,7 +2,9 @@
 #![tactic(auto)]
 
 mod key;
+mod numbers;
 mod places;
 
 pub use key::RowKey;
+pub use numbers::place_numbers;
 pub use places::{RowStep, place, steps_lead};

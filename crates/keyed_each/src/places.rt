@@ -35,7 +35,7 @@ fn table<K: RowKey>(alloc: Global, list: &[K]) -> Result<IndexSet<K>, NoMemory>
     ensures keys { IsDistinct K.eq list.now → IfOk result (λ t. t.keys ≡ list.now) }
     ensures distinct { IfOk result (λ t. IsDistinct K.eq t.keys) }
 {
-    let mut keys = IndexSet::new(alloc);
+    let mut keys = IndexSet::with_capacity(alloc, list.len())?;
     for key in list {
         add(&mut keys, key)?;
     }
