@@ -1,5 +1,5 @@
 // One signal's node.
-ghost use Rattle.std.specs.Prelude.{◌≡◌, ℕ, ◌+◌, ◌<◌, ◌^◌, ◌++◌, ◌∷◌, [], List, length, take, true, false, None, Some, IfOk, IfSome, IfNone, OnOk, is_some, slice_get, if◌then◌else◌};
+ghost use Rattle.std.specs.Prelude.{◌≡◌, ℕ, ◌+◌, ◌<◌, ◌^◌, ◌++◌, ◌∷◌, [], List, Option, length, take, true, false, None, Some, IfOk, IfSome, IfNone, OnOk, is_some, slice_get, if◌then◌else◌};
 ghost use Rattle.std.specs.Option.{option_copied};
 ghost use Rattle.signal_model.specs.Recipes.{Hosts};
 ghost use Rattle.signal_model.specs.Recipes as recipes;
@@ -13,11 +13,13 @@ ghost use Rattle.sig_nodes.specs.Answers.{expression_of, host_place, IsAnswerOf,
 ghost use Rattle.sig_nodes.specs.Computations.{at_generation, paired, recipe_made};
 ghost use Rattle.sig_nodes.specs.Pauses.{IsHeldOf};
 ghost use Rattle.sig_base.specs.declared.value.Known.{Known};
+ghost use Rattle.sig_formula.specs.Evaluation.{answer_of};
 ghost use Rattle.sig_formula.specs.Machines.{IsPaused};
+ghost use Rattle.sig_formula.specs.declared.formula.RowRef.{RowRef};
 ghost use Rattle.sig_formula.specs.Trees.{tree};
 
 use crate::answers::{Asked, Recipe};
-use sig_base::{Fault, Known, NoMemory, NodeId, Outcome, Value};
+use sig_base::{Fault, Known, NoMemory, NodeId, Outcome, Step, Value};
 use sig_formula::{Formula, Paused};
 use signal_model::judged;
 use std::alloc::Global;
@@ -163,8 +165,8 @@ pub(crate) struct Computation {
     memo: Option<Memo>,
     computing: bool,
     known: Vec<Known>,
-    // none before the first answer, and for a host formula; it is kept from one run to the next
-    paused: Option<Paused>,
+    // none before the first answer, and for a host formula; it is kept from one run to the next, in a box as it is taken out and put back
+    paused: Option<Box<Paused>>,
 }
 
 impl Model for Computation {
@@ -325,7 +327,7 @@ impl Computation {
         match &self.recipe {
             Recipe::Formula(formula) => {
                 let mut paused = begun(alloc, formula, held)?;
-                let step = paused.advance(alloc, formula, None, known)?;
+                let step = advanced(alloc, formula, &mut paused, known)?;
                 self.paused = Some(paused);
                 Ok(Asked::Step(judged(self.slots.len(), known, step)))
             }
@@ -384,14 +386,42 @@ fn note_rest(held: &mut Vec<Known>, known: &[Known]) -> Result<(), NoMemory>
     Ok(())
 }
 
+// An evaluation of a formula that has read nothing, in a box.
+fn unread(alloc: Global, formula: &Formula) -> Result<Box<Paused>, NoMemory>
+    ensures { IfOk result (λ p. (row : Option RowRef) → IsPaused p.value (tree formula.now) row []) }
+{
+    let paused = Paused::new(alloc, formula)?;
+    let boxed = Box::new(alloc, paused)?;
+    Ok(boxed)
+}
+
 // The evaluation of a formula that is held, or else one that has read nothing.
-fn begun(alloc: Global, formula: &Formula, held: Option<Paused>) -> Result<Paused, NoMemory>
-    ensures { IfOk result (λ p. (known : List Known) → IsHeldOf held (tree formula.now) known → IsPaused p (tree formula.now) None known) }
+fn begun(
+    alloc: Global,
+    formula: &Formula,
+    held: Option<Box<Paused>>,
+) -> Result<Box<Paused>, NoMemory>
+    ensures { IfOk result (λ p. (known : List Known) → IsHeldOf held (tree formula.now) known → IsPaused p.value (tree formula.now) None known) }
 {
     match held {
         Some(paused) => Ok(paused),
-        None => Paused::new(alloc, formula),
+        None => unread(alloc, formula),
     }
+}
+
+// Goes on with an evaluation in a box: what the formula answers.
+fn advanced(
+    alloc: Global,
+    formula: &Formula,
+    paused: &mut Box<Paused>,
+    known: &[Known],
+) -> Result<Step, NoMemory>
+    requires { IsPaused paused.old.value (tree formula.now) None known.now }
+    ensures answer { IfOk result (λ s. s ≡ answer_of (tree formula.now) None known.now) }
+    ensures paused { OnOk result (IsPaused paused.new.value (tree formula.now) None known.now) }
+{
+    let step = paused.advance(alloc, formula, None, known)?;
+    Ok(step)
 }
 
 fn host_place(recipe: &Recipe) -> Option<usize>
