@@ -336,7 +336,7 @@ can_here w n new (IsComputed c) there room = go c.recipe.expression there
     go (host place) h = (h place (grind (arith, nat_tests)), room place)
 
 pub can_ask : (g : states.Seen) (old new : List HostPlace) (n before after : ℕ) (fs : List Frame) → HaveFewSlots g.state.signals → AreFit g fs → AreThere g.state.signals old →
-    most_asked old < 2 ^ 127 → length fs < 2 ^ 64 → after < 2 ^ 64 → HasAsked g.state.signals old new before after fs → CanAsk (host_here (standing g.state.signals n)) new
+    most_asked old < 2 ^ 127 → length fs < 2 ^ 65 → after < 2 ^ 64 → HasAsked g.state.signals old new before after fs → CanAsk (host_here (standing g.state.signals n)) new
 can_ask g old new n before after fs slots fit are room frames notes h =
     can_here g.state.signals n new (standing g.state.signals n) (λ place is. h.there place ∙ are.each place (uses_standing g.state.signals place n is)) (λ place.
     let a : count_at new place + 65 * before ≤ count_at old place + 65 * after + stack_asked place g.state.signals fs = h.rise place in

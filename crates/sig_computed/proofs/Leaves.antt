@@ -1,5 +1,5 @@
 -- What stands under a name, as a graph answers it and as steps ask it.
-use Rattle.std.proofs.Common.{◌≡◌, ℕ, ◌+◌, Bool, true, false, List, [], length, Option, Some, refl, sym, ap, ◌∙◌, subst}
+use Rattle.std.proofs.Common.{◌≡◌, ℕ, ◌+◌, Bool, true, false, List, [], length, Option, Some, Result, Ok, Err, OnOk, refl, sym, ap, ◌∙◌, subst}
 use Rattle.sig_base.specs.declared.value.Outcome.{Outcome}
 use Rattle.sig_base.specs.declared.value.Outcome.TheVariants.{Bad}
 use Rattle.sig_base.specs.declared.value.Fault.TheVariants.{Cycle}
@@ -81,3 +81,15 @@ host_answer hosts st known a place slots step s is here given same answer = go s
         by : (x : Expression) → host_place x ≡ Some place → hosts place known ≡ given_answer hosts x known
         by (formula row t) q = cc
         by (host p) q = let same : p ≡ place = cc in ap (λ n. hosts n known) (sym same)
+
+-- what holds whatever an answer is holds where it is no error
+pub anyway : {A E P : Type 0} (r : Result A E) → P → OnOk r P
+anyway (Ok x) p = p
+anyway (Err e) p = tt
+
+-- what was visited is ready, whatever stands there
+pub ready_visited : (st : Stands) (e v : Bool) → v ≡ true → true ≡ is_ready st e v
+ready_visited IsGone e v on = refl
+ready_visited (IsCell c) e v on = refl
+ready_visited (IsComputed c) true v on = refl
+ready_visited (IsComputed c) false v on = sym on

@@ -2,12 +2,18 @@
 use Rattle.std.proofs.Common.{◌≡◌, ℕ, zero, suc, ◌+◌, ◌≤◌, ◌==◌, ◌||◌, inl, inr, true≢false, Bool, true, false, cond, List, [], ◌∷◌, Some, None, map, refl, sym, ap, ◌∙◌, subst, arith}
 use Rattle.std.specs.Prelude.{is_some, slice_get}
 use Rattle.std.proofs.lemmas.Bool.{eqb-true, eq-eqb}
+use Rattle.std.proofs.lemmas.List.Elements.{All-append, All-cons, All-nil}
+use Rattle.sig_base.specs.declared.value.Outcome.{Outcome}
+use Rattle.sig_base.specs.declared.value.Outcome.TheVariants.{Bad, Good}
+use Rattle.sig_base.specs.declared.value.Known.{Known}
 use Rattle.signal_model.specs.Signals.{Signals, Computed, Stands, IsGone, IsCell, IsComputed, is_in, is_computed, standing}
+use Rattle.signal_model.specs.Values.{Seen}
 use Rattle.signal_model.specs.Memos.{Source, Memos}
+use Rattle.signal_model.specs.Sound.{standing_outcome}
 use Rattle.signal_model.specs.Marks.{mark_of}
 use Rattle.signal_model.proofs.Shared.{or_left, or_right, stands-computed, tested}
 use Rattle.signal_laws.proofs.Shared.{in_append}
-use Rattle.sig_computed.specs.Steps.{LookedAt, Move, Needs, Stops, decided, is_ready, looked}
+use Rattle.sig_computed.specs.Steps.{LookedAt, Move, Needs, Stops, Waiting, decided, is_ready, looked, ready_outcome, slot_read}
 use Rattle.sig_computed.specs.Skips.{clean_among, compare_steps, is_clean, look_steps, passed_over, source_steps}
 use Rattle.sig_computed.proofs.Skips.{among_clean, clean_found}
 use Rattle.signal_model.specs.Marks as marks
@@ -16,8 +22,9 @@ use Rattle.sig_nodes.specs.declared.answers.Standing.TheVariants as kind
 use Rattle.sig_nodes.specs.Answers.{kind_here}
 use Rattle.sig_nodes.specs.Looks.{look_here}
 use Rattle.sig_nodes.specs.States as states
-use Rattle.sig_nodes.specs.States.{Progress, progress_at}
-use Rattle.sig_computed.specs.Views.{first_moved, first_name, evaluating, passing, Stays}
+use Rattle.sig_nodes.specs.States.{Progress, is_given, progress_at}
+use Rattle.sig_computed.specs.Views.{first_moved, first_name, evaluating, or_cycle, passing, Stays}
+use Rattle.sig_computed.specs.Turns.{AreReadsGiven, move_reads, waits}
 
 -- what stands at a place is among the others
 pub in_at : (ns : List ℕ) (i n : ℕ) → slice_get ns i ≡ Some n → is_in n ns ≡ true
@@ -109,6 +116,26 @@ stays_here g n = record { signals = refl; memos = refl; progress = refl; worn = 
 -- and who is being evaluated is the same
 pub evaluating_stays : (g h : states.Seen) (n : ℕ) → Stays g h g.state.progress n → evaluating h.state ≡ evaluating g.state
 evaluating_stays g h n s = (λ i. passing (λ m. is_some (progress_at m (s.progress i))) (map (λ (p : Progress). p.name) (s.progress i)))
+
+-- a slot whose source is ready is read as what the source is read as
+pub waits_read : (w : Signals) (k : Memos) (evaluating over : List ℕ) (slot m : ℕ) (o : Outcome) (known : List Known) (reads : List Seen) →
+    is_ready (standing w m) (is_in m evaluating) (is_in m over) ≡ true →
+    o ≡ or_cycle (ready_outcome (standing w m) (is_in m evaluating) (standing_outcome w k m)) →
+    slot_read slot m (Some o) known reads ≡ waits w k evaluating over slot m known reads
+waits_read w k evaluating over slot m o known reads ready is =
+    ap (λ (x : Outcome). slot_read slot m (Some x) known reads) is
+    ∙ sym (ap (λ b. cond b (slot_read slot m (Some (or_cycle (ready_outcome (standing w m) (is_in m evaluating) (standing_outcome w k m)))) known reads)
+    (Needs m (Waiting slot known reads))) ready)
+
+-- what was read then was given
+pub read_given : (g : states.Seen) (slot m : ℕ) (o : Outcome) (known : List Known) (reads : List Seen) → AreReadsGiven g reads → is_given g m ≡ true →
+    AreReadsGiven g (move_reads (slot_read slot m (Some o) known reads))
+read_given g slot m (Good v) known reads all on =
+    All-append (λ (r : Seen). is_given g r.name ≡ true) reads (record { name = m; outcome = Good v } ∷ []) all
+    (All-cons (λ (r : Seen). is_given g r.name ≡ true) (record { name = m; outcome = Good v }) [] on (All-nil (λ (r : Seen). is_given g r.name ≡ true)))
+read_given g slot m (Bad e) known reads all on =
+    All-append (λ (r : Seen). is_given g r.name ≡ true) reads (record { name = m; outcome = Bad e } ∷ []) all
+    (All-cons (λ (r : Seen). is_given g r.name ≡ true) (record { name = m; outcome = Bad e }) [] on (All-nil (λ (r : Seen). is_given g r.name ≡ true)))
 
 -- what is answered as a computed isn't being evaluated
 pub kind_idle : (st : Stands) (b : Bool) → kind.Computed ≡ kind_here st b → b ≡ false

@@ -1,5 +1,5 @@
 -- How contracts see the frames of the code, and the graph that they stand on.
-use Rattle.std.specs.Prelude.{◌≡◌, ℕ, ◌+◌, ◌≤◌, Bool, false, List, [], ◌∷◌, map, reverse, Option, Some, None, if◌then◌else◌}
+use Rattle.std.specs.Prelude.{◌≡◌, ℕ, ◌+◌, ◌≤◌, Bool, true, false, List, [], ◌∷◌, map, reverse, Option, Some, None, if◌then◌else◌}
 use Rattle.sig_base.specs.declared.value.Outcome.{Outcome}
 use Rattle.sig_base.specs.declared.value.Outcome.TheVariants.{Bad}
 use Rattle.sig_base.specs.declared.value.Fault.TheVariants.{Cycle}
@@ -11,10 +11,10 @@ use Rattle.sig_nodes.specs.States as states
 use Rattle.sig_nodes.specs.States.{State, Progress, is_computing}
 use Rattle.sig_computed.specs.Steps.{Phase, Looking, LookedAt, Running, Waiting, Frame, Move, GoesOn, Needs, Stops, Ends}
 use Rattle.sig_computed.specs.declared.frames.Read.{Read}
+use Rattle.sig_computed.specs.declared.frames.Learnt.{Learnt}
 use Rattle.sig_computed.specs.declared.frames.Doing.{Doing}
 use Rattle.sig_computed.specs.declared.frames.Doing.TheVariants as doing
 use Rattle.sig_computed.specs.declared.frames.Open.{Open}
-use Rattle.sig_computed.specs.declared.frames.Ran.{Ran}
 use Rattle.sig_computed.specs.declared.frames.Turn.{Turn}
 use Rattle.sig_computed.specs.declared.frames.Turn.TheVariants as turn
 
@@ -22,31 +22,36 @@ use Rattle.sig_computed.specs.declared.frames.Turn.TheVariants as turn
 abbrev pub seen_of : Read → Seen
 seen_of r = record { name = r.id; outcome = r.outcome }
 
--- what a frame is doing
-abbrev pub phase_of : Doing → Phase
-phase_of (doing.Looking place) = Looking place
-phase_of (doing.LookedAt place) = LookedAt place
-phase_of (doing.Running known reads) = Running known.items (map seen_of reads.items)
-phase_of (doing.Waiting slot known reads) = Waiting slot known.items (map seen_of reads.items)
+-- what a frame is doing, by what it has learnt
+abbrev pub phase_of : Doing → Learnt → Phase
+phase_of (doing.Looking place) l = Looking place
+phase_of (doing.LookedAt place) l = LookedAt place
+phase_of doing.Running l = Running l.known.items (map seen_of l.reads.items)
+phase_of (doing.Waiting slot) l = Waiting slot l.known.items (map seen_of l.reads.items)
 
 -- a frame
 abbrev pub frame_of : Open → Frame
-frame_of f = record { name = f.id; phase = phase_of f.doing }
+frame_of f = record { name = f.id; phase = phase_of f.doing f.learnt }
 
 -- a run that has come to its end
-abbrev pub evaluation_of : Ran → Evaluation
-evaluation_of r = record { reads = map seen_of r.reads.items; outcome = r.outcome }
+abbrev pub evaluation_of : List Read → Outcome → Evaluation
+evaluation_of rs o = record { reads = map seen_of rs; outcome = o }
 
--- what a step comes to
-abbrev pub move_of : Turn → Move
-move_of (turn.GoesOn d) = GoesOn (phase_of d)
-move_of (turn.Needs id d) = Needs id (phase_of d)
-move_of turn.Stops = Stops
-move_of (turn.Ends ran) = Ends (evaluation_of ran)
+-- what a step comes to that leaves a frame as it is
+abbrev pub move_of : Turn → Open → Move
+move_of turn.GoesOn f = GoesOn (phase_of f.doing f.learnt)
+move_of (turn.Needs id) f = Needs id (phase_of f.doing f.learnt)
+move_of turn.Stops f = Stops
+move_of (turn.Ends o) f = Ends (evaluation_of f.learnt.reads.items o)
 
--- the frames, the innermost first
+-- the frames of a stack, the innermost first
 abbrev pub tops : List Open → List Frame
 tops fs = map frame_of (reverse fs)
+
+-- the frames with the innermost one, where one is left
+abbrev pub held : Bool → Open → List Frame → List Frame
+held true f fs = frame_of f ∷ fs
+held false f fs = []
 
 -- the names that pass a test
 abbrev pub passing : (ℕ → Bool) → List ℕ → List ℕ

@@ -4,44 +4,40 @@ ghost use Rattle.signal_model.specs.Recipes.{Hosts};
 ghost use Rattle.signal_model.specs.Signals.{is_computed, is_in, standing};
 ghost use Rattle.signal_model.specs.Values.{value_of};
 ghost use Rattle.signal_model.specs.Kept.{AreKept};
-ghost use Rattle.signal_model.specs.Sound.{names_of};
+ghost use Rattle.signal_model.specs.Sound.{names_of, standing_outcome};
 ghost use Rattle.sig_nodes.specs.States.{is_computing, progress_at, CanWear};
 ghost use Rattle.sig_computed.specs.Steps.{frame_names, new_frame};
 ghost use Rattle.sig_host.specs.Hosts.{most_asked};
 ghost use Rattle.sig_computed.specs.Asked.{AreThere};
 ghost use Rattle.sig_computed.specs.Notes.{note_of, HasRoom, IsIdle};
 ghost use Rattle.sig_computed.specs.Scenes.{scene, CanSettle, Settles};
-ghost use Rattle.sig_computed.specs.Views.{evaluating, evaluation_of, frame_of, move_of, progressed, seen_of, tops, Stays};
+ghost use Rattle.sig_computed.specs.Views.{evaluating, evaluation_of, frame_of, held, move_of, progressed, seen_of, tops, Stays};
 ghost use Rattle.sig_computed.specs.Turns.{evaluation_note, first_stack, notes_of, stack_after, visited_after, AreReadsGiven, CanMove, HasFirst, IsKept, IsMoved};
 
-use crate::frames::{Doing, Open, Ran, Read, Turn};
+use crate::frames::{Doing, Learnt, Open, Read, Turn, begin_run, go_in, go_out};
 use crate::notes::RunNote;
-use crate::turns::{is_clean, outcome_of, turn_of};
+use crate::turns::{is_clean, outcome_as, outcome_of, turn_of};
 use crate::visited::Visited;
 use sig_base::{NoMemory, NodeId, Outcome};
 use sig_host::{Lent, Shelf};
 use sig_nodes::{Graph, Standing};
 use std::alloc::Global;
+use std::mem;
 
 // Begins the evaluation of a computed: what is stale runs, and all else looks first.
-fn opened(alloc: Global, graph: &mut Graph, id: NodeId) -> Open
-    requires live { is_computed (standing graph.old.state.signals id) ≡ true }
-    requires idle { is_computing graph.old.state id ≡ false }
-    ensures frame { frame_of result ≡ new_frame graph.old.state.memos id }
-    ensures after { Stays graph.old graph.new (progressed id (Some []) graph.old.state.progress) 1 }
-    ensures begun { progress_at id graph.new.state.progress ≡ Some [] }
+fn begin(graph: &mut Graph, spare: &mut Learnt, frame: &mut Open)
+    requires live { is_computed (standing graph.old.state.signals frame.old.id) ≡ true }
+    requires idle { is_computing graph.old.state frame.old.id ≡ false }
+    ensures frame { frame_of frame.new ≡ new_frame graph.old.state.memos frame.old.id }
+    ensures after { Stays graph.old graph.new (progressed frame.old.id (Some []) graph.old.state.progress) 1 }
+    ensures begun { progress_at frame.old.id graph.new.state.progress ≡ Some [] }
 {
-    graph.begin(id);
-    if graph.stale(id) {
-        return Open {
-            id,
-            doing: Doing::Running(Vec::new(alloc), Vec::new(alloc)),
-        };
+    graph.begin(frame.id);
+    if graph.stale(frame.id) {
+        begin_run(frame, spare);
+        return;
     }
-    Open {
-        id,
-        doing: Doing::Looking(0),
-    }
+    frame.doing = Doing::Looking(0);
 }
 
 // The names of what was read.
@@ -56,27 +52,39 @@ fn names(alloc: Global, reads: &[Read]) -> Result<Vec<NodeId>, NoMemory>
 }
 
 // Keeps a run in the graph.
-fn keep_in(alloc: Global, graph: &mut Graph, node: NodeId, ran: &Ran) -> Result<(), NoMemory>
+fn keep_in(
+    alloc: Global,
+    graph: &mut Graph,
+    node: NodeId,
+    reads: &[Read],
+    outcome: &Outcome,
+) -> Result<(), NoMemory>
     requires computing { is_computing graph.old.state node ≡ true }
-    requires given { AreReadsGiven graph.old (evaluation_of ran.now).reads }
+    requires given { AreReadsGiven graph.old (map seen_of reads.now) }
     requires worn { CanWear graph.old.state }
-    ensures { OnOk result (IsKept graph.old graph.new node (evaluation_of ran.now)) }
+    ensures { OnOk result (IsKept graph.old graph.new node (evaluation_of reads.now outcome.now)) }
 {
-    let sources = names(alloc, &ran.reads)?;
-    let outcome = ran.outcome.copy()?;
+    let sources = names(alloc, reads)?;
+    let outcome = outcome.copy()?;
     graph.keep_run(node, outcome, sources)?;
     Ok(())
 }
 
 // Notes a run.
-fn tell_run(alloc: Global, notes: &mut Vec<RunNote>, node: NodeId, ran: Ran) -> Result<(), NoMemory>
-    ensures { OnOk result (map note_of notes.new.items ≡ map note_of notes.old.items ++ evaluation_note node (evaluation_of ran) ∷ []) }
+fn tell_run(
+    alloc: Global,
+    notes: &mut Vec<RunNote>,
+    node: NodeId,
+    reads: &[Read],
+    outcome: Outcome,
+) -> Result<(), NoMemory>
+    ensures { OnOk result (map note_of notes.new.items ≡ map note_of notes.old.items ++ evaluation_note node (evaluation_of reads.now outcome) ∷ []) }
 {
-    let reads = names(alloc, &ran.reads)?;
+    let reads = names(alloc, reads)?;
     notes.push(RunNote {
         id: node,
         reads,
-        outcome: ran.outcome,
+        outcome,
     })?;
     Ok(())
 }
@@ -87,75 +95,121 @@ fn keep(
     graph: &mut Graph,
     notes: &mut Vec<RunNote>,
     node: NodeId,
-    ran: Ran,
+    reads: &[Read],
+    outcome: Outcome,
 ) -> Result<(), NoMemory>
     requires computing { is_computing graph.old.state node ≡ true }
-    requires given { AreReadsGiven graph.old (evaluation_of ran).reads }
+    requires given { AreReadsGiven graph.old (map seen_of reads.now) }
     requires worn { CanWear graph.old.state }
-    ensures after { OnOk result (IsKept graph.old graph.new node (evaluation_of ran)) }
-    ensures notes { OnOk result (map note_of notes.new.items ≡ map note_of notes.old.items ++ evaluation_note node (evaluation_of ran) ∷ []) }
+    ensures after { OnOk result (IsKept graph.old graph.new node (evaluation_of reads.now outcome)) }
+    ensures notes { OnOk result (map note_of notes.new.items ≡ map note_of notes.old.items ++ evaluation_note node (evaluation_of reads.now outcome) ∷ []) }
 {
-    keep_in(alloc, graph, node, &ran)?;
-    tell_run(alloc, notes, node, ran)?;
+    keep_in(alloc, graph, node, reads, &outcome)?;
+    tell_run(alloc, notes, node, reads, outcome)?;
     Ok(())
 }
 
-// Makes the move of the innermost frame, which was taken off.
+// Makes the move of the innermost frame, and tells whether one is left. What it needs of the graph is asked for apart, and the frames, what
+// was visited, the notes and the graph are told apart.
 fn apply(
     alloc: Global,
     graph: &mut Graph,
     stack: &mut Vec<Open>,
     visited: &mut Visited,
     notes: &mut Vec<RunNote>,
-    node: NodeId,
+    spare: &mut Learnt,
+    frame: &mut Open,
     turn: Turn,
-) -> Result<(), NoMemory>
-    requires computing { is_computing graph.old.state node ≡ true }
+) -> Result<bool, NoMemory>
+    requires computing { is_computing graph.old.state frame.old.id ≡ true }
     requires worn { CanWear graph.old.state }
-    requires can { CanMove graph.old (move_of turn) }
-    ensures stack { OnOk result (tops stack.new.items ≡ stack_after graph.old.state.memos node (move_of turn) (tops stack.old.items)) }
-    ensures visited { (m : ℕ) → OnOk result (is_in m visited.new ≡ is_in m (visited_after node (move_of turn) visited.old)) }
-    ensures notes { OnOk result (map note_of notes.new.items ≡ map note_of notes.old.items ++ notes_of node (move_of turn)) }
-    ensures graph { OnOk result (IsMoved graph.old graph.new node (move_of turn)) }
+    requires can { CanMove graph.old (move_of turn frame.old) }
+    ensures stack { IfOk result (λ going. held going frame.new (tops stack.new.items) ≡ stack_after graph.old.state.memos frame.old.id (move_of turn frame.old) (tops stack.old.items)) }
+    ensures visited { (m : ℕ) → OnOk result (is_in m visited.new ≡ is_in m (visited_after frame.old.id (move_of turn frame.old) visited.old)) }
+    ensures notes { OnOk result (map note_of notes.new.items ≡ map note_of notes.old.items ++ notes_of frame.old.id (move_of turn frame.old)) }
+    ensures graph { OnOk result (IsMoved graph.old graph.new frame.old.id (move_of turn frame.old)) }
 {
     match turn {
-        Turn::GoesOn(doing) => {
-            stack.push(Open { id: node, doing })?;
-            Ok(())
-        }
-        Turn::Needs(id, doing) => {
-            stack.push(Open { id: node, doing })?;
-            let first = opened(alloc, graph, id);
-            stack.push(first)?;
-            Ok(())
+        Turn::GoesOn => Ok(true),
+        Turn::Needs(id) => {
+            let mut inner = Open::new(alloc, id);
+            begin(graph, spare, &mut inner);
+            go_in(stack, frame, inner)?;
+            Ok(true)
         }
         Turn::Stops => {
-            graph.stop(node);
-            visited.add(node)?;
-            Ok(())
+            graph.stop(frame.id);
+            visited.add(frame.id)?;
+            Ok(go_out(stack, frame))
         }
-        Turn::Ends(ran) => {
-            keep(alloc, graph, notes, node, ran)?;
-            visited.add(node)?;
-            Ok(())
+        Turn::Ends(outcome) => {
+            keep(alloc, graph, notes, frame.id, &frame.learnt.reads, outcome)?;
+            visited.add(frame.id)?;
+            mem::swap(&mut frame.learnt, spare);
+            Ok(go_out(stack, frame))
         }
     }
 }
 
-// The frames at the beginning: that of the computed that is asked for, and none where it is clean.
-fn first(alloc: Global, graph: &mut Graph, id: NodeId) -> Result<Vec<Open>, NoMemory>
+// Begins with the computed that is asked for, where it isn't clean. Whether it isn't.
+fn first(graph: &mut Graph, spare: &mut Learnt, frame: &mut Open) -> bool
+    requires live { is_computed (standing graph.old.state.signals frame.old.id) ≡ true }
+    requires idle { IsIdle graph.old.state }
+    ensures stack { held result frame.new [] ≡ first_stack graph.old.state.signals graph.old.state.memos frame.old.id }
+    ensures graph { HasFirst graph.old graph.new frame.old.id (held result frame.new []) }
+{
+    if is_clean(graph, frame.id) {
+        return false;
+    }
+    begin(graph, spare, frame);
+    true
+}
+
+// Settles a computed. Its clauses are those of settling any signal, but for the value, which is told as what the computed shows then. It
+// stands apart since what is no computed, needs no frames.
+#[inline(never)]
+fn bring_up(
+    graph: &mut Graph,
+    shelf: &mut Shelf,
+    id: NodeId,
+    notes: &mut Vec<RunNote>,
+) -> Result<(), NoMemory>
     requires live { is_computed (standing graph.old.state.signals id) ≡ true }
     requires idle { IsIdle graph.old.state }
-    ensures stack { IfOk result (λ v. tops v.items ≡ first_stack graph.old.state.signals graph.old.state.memos id) }
-    ensures graph { IfOk result (λ v. HasFirst graph.old graph.new id (tops v.items)) }
+    requires worn { HasRoom graph.old.state }
+    requires counted { ⟦<Shelf as Lent>⟧.counted shelf.old }
+    requires there { AreThere graph.old.state.signals (⟦<Shelf as Lent>⟧.asked shelf.old) }
+    requires room { most_asked (⟦<Shelf as Lent>⟧.asked shelf.old) < 2 ^ 127 }
+    ensures value { (hosts : Hosts) → ⟦<Shelf as Lent>⟧.answers hosts shelf.old → AreKept hosts graph.old.state.signals graph.old.state.memos →
+        OnOk result (standing_outcome graph.new.state.signals graph.new.state.memos id ≡ Some (value_of hosts graph.old.state.signals id [])) }
+    ensures settles { OnOk result (Settles
+        (scene graph.old (⟦<Shelf as Lent>⟧.asked shelf.old) notes.old.items) (scene graph.new (⟦<Shelf as Lent>⟧.asked shelf.new) notes.new.items)
+        (λ hosts. ⟦<Shelf as Lent>⟧.answers hosts shelf.old) (λ hosts. ⟦<Shelf as Lent>⟧.answers hosts shelf.new) (λ _. id ∷ [])) }
+    ensures can { CanSettle (scene graph.old (⟦<Shelf as Lent>⟧.asked shelf.old) notes.old.items) →
+        OnOk result (CanSettle (scene graph.new (⟦<Shelf as Lent>⟧.asked shelf.new) notes.new.items)) }
+    ensures counted { OnOk result (⟦<Shelf as Lent>⟧.counted shelf.new) }
 {
+    let _made = graph.made();
+    let alloc = *notes.allocator();
+    let mut visited = Visited::new(alloc);
+    let mut spare = Learnt::new(alloc);
     let mut stack = Vec::new(alloc);
-    if is_clean(graph, id) {
-        return Ok(stack);
+    let mut frame = Open::new(alloc, id);
+    let mut going = first(graph, &mut spare, &mut frame);
+    while going {
+        let turn = turn_of(alloc, graph, shelf, &visited, &mut spare, &mut frame)?;
+        going = apply(
+            alloc,
+            graph,
+            &mut stack,
+            &mut visited,
+            notes,
+            &mut spare,
+            &mut frame,
+            turn,
+        )?;
     }
-    let frame = opened(alloc, graph, id);
-    stack.push(frame)?;
-    Ok(stack)
+    Ok(())
 }
 
 /// Settles a signal, gone ones too, and gives its outcome, which is its value from scratch. What is kept afterwards and the notes
@@ -185,19 +239,13 @@ pub fn settle(
         OnOk result (CanSettle (scene graph.new (⟦<Shelf as Lent>⟧.asked shelf.new) notes.new.items)) }
     ensures counted { OnOk result (⟦<Shelf as Lent>⟧.counted shelf.new) }
 {
-    let _made = graph.made();
-    let Standing::Computed = graph.standing(id) else {
-        let shown = outcome_of(graph, id)?;
-        return Ok(shown);
-    };
-    let alloc = *notes.allocator();
-    let mut visited = Visited::new(alloc);
-    let mut stack = first(alloc, graph, id)?;
-    while let Some(frame) = stack.pop() {
-        let node = frame.id;
-        let turn = turn_of(alloc, graph, shelf, &visited, frame)?;
-        apply(alloc, graph, &mut stack, &mut visited, notes, node, turn)?;
+    let kind = graph.standing(id);
+    match kind {
+        Standing::Computed => {
+            bring_up(graph, shelf, id, notes)?;
+            let outcome = outcome_of(graph, id)?;
+            Ok(outcome)
+        }
+        _ => outcome_as(graph, id, kind),
     }
-    let outcome = outcome_of(graph, id)?;
-    Ok(outcome)
 }

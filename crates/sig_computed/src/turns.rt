@@ -6,14 +6,14 @@ ghost use Rattle.signal_model.specs.Memos.{holds_cycle, memo_of, sources_of};
 ghost use Rattle.signal_model.specs.Marks.{mark_of};
 ghost use Rattle.sig_computed.specs.Skips.{compare_steps, is_clean, look_steps, passed_over, source_steps};
 ghost use Rattle.signal_model.specs.Sound.{kept_outcome, standing_outcome};
-ghost use Rattle.sig_nodes.specs.Answers.{answer_here, host_here, slots_here, IsAnswerHere, IsJudgedAnswer};
+ghost use Rattle.sig_nodes.specs.Answers.{answer_here, host_here, kind_here, slots_here, IsAnswerHere, IsJudgedAnswer};
 ghost use Rattle.sig_nodes.specs.States.{is_computing, is_given, progress_at, GoesOn};
-ghost use Rattle.sig_computed.specs.Steps.{answered, decided, is_ready, Ends, looked, ready_outcome, slot_read};
+ghost use Rattle.sig_computed.specs.Steps.{answered, decided, is_ready, looked, ready_outcome, slot_read};
 ghost use Rattle.sig_computed.specs.Views.{evaluating, first_moved, first_name, frame_of, move_of, or_cycle, phase_of, progressed, seen_of, Stays};
 ghost use Rattle.sig_computed.specs.Asked.{asked_once, places_by, CanAsk};
 ghost use Rattle.sig_computed.specs.Turns.{move_by, move_reads, progress_by, turn_steps, waits, AreReadsGiven, Fits, IsAnswered, IsMove};
 
-use crate::frames::{Doing, Open, Ran, Read, Turn};
+use crate::frames::{Doing, Learnt, Open, Read, Turn, begin_run};
 use crate::visited::Visited;
 use sig_base::{Fault, Known, NoMemory, NodeId, Outcome, Step};
 use sig_host::{Lent, Shelf};
@@ -34,11 +34,15 @@ pub(crate) fn is_clean(graph: &mut Graph, id: NodeId) -> bool
     }
 }
 
-// Whether a source needs no settling first: it is no computed, is being evaluated, was visited, or is clean.
+// Whether a source needs no settling first: it is no computed, is being evaluated, was visited, or is clean. What was settled just now needs
+// no look at all.
 fn is_ready(graph: &mut Graph, visited: &Visited, id: NodeId) -> bool
     ensures ready { result ≡ is_ready (standing graph.old.state.signals id) (is_in id (evaluating graph.old.state)) (is_in id (passed_over graph.old.state.signals graph.old.state.memos visited.now)) }
     ensures after { Stays graph.old graph.new graph.old.state.progress (look_steps (standing graph.old.state.signals id) (is_in id (evaluating graph.old.state)) (is_in id visited.now)) }
 {
+    if visited.is_last(id) {
+        return true;
+    }
     match graph.standing(id) {
         Standing::Computed => {
             if visited.has(id) {
@@ -74,41 +78,62 @@ fn holds_cycle(graph: &Graph, node: NodeId) -> bool
 }
 
 // A source that is ready decides whether the computed runs, or looks at the next.
-fn decide(alloc: Global, graph: &mut Graph, node: NodeId, place: usize) -> Turn
-    requires inside { place < length (sources_of graph.old.state.memos node) }
+fn decide(graph: &mut Graph, spare: &mut Learnt, frame: &mut Open, place: usize) -> Turn
+    requires inside { place < length (sources_of graph.old.state.memos frame.old.id) }
     requires small { place < 18446744073709551615 }
-    ensures turn { move_of result ≡ decided (holds_cycle graph.old.state.memos node) (first_moved graph.old.state.memos (evaluating graph.old.state) (drop place (sources_of graph.old.state.memos node))) place }
-    ensures after { Stays graph.old graph.new graph.old.state.progress (compare_steps (move_of result)) }
+    ensures turn { move_of result frame.new ≡ decided (holds_cycle graph.old.state.memos frame.old.id) (first_moved graph.old.state.memos (evaluating graph.old.state) (drop place (sources_of graph.old.state.memos frame.old.id))) place }
+    ensures id { frame.new.id ≡ frame.old.id }
+    ensures given { move_reads (move_of result frame.new) ≡ [] }
+    ensures after { Stays graph.old graph.new graph.old.state.progress (compare_steps (move_of result frame.new)) }
 {
-    if holds_cycle(graph, node) {
-        return Turn::GoesOn(Doing::Looking(place + 1));
+    if holds_cycle(graph, frame.id) {
+        frame.doing = Doing::Looking(place + 1);
+        return Turn::GoesOn;
     }
-    if graph.moved(node, place) {
-        return Turn::GoesOn(Doing::Running(Vec::new(alloc), Vec::new(alloc)));
+    if graph.moved(frame.id, place) {
+        begin_run(frame, spare);
+        return Turn::GoesOn;
     }
-    Turn::GoesOn(Doing::Looking(place + 1))
+    frame.doing = Doing::Looking(place + 1);
+    Turn::GoesOn
 }
 
 // A look at the kept sources from a place on.
-fn look(alloc: Global, graph: &mut Graph, visited: &Visited, node: NodeId, place: usize) -> Turn
-    ensures turn { move_of result ≡ looked graph.old.state.signals graph.old.state.memos (evaluating graph.old.state) (passed_over graph.old.state.signals graph.old.state.memos visited.now) (holds_cycle graph.old.state.memos node) place (drop place (sources_of graph.old.state.memos node)) }
-    ensures given { AreReadsGiven graph.old (move_reads (move_of result)) }
-    ensures after { Stays graph.old graph.new graph.old.state.progress (source_steps graph.old.state.signals (evaluating graph.old.state) visited.now (drop place (sources_of graph.old.state.memos node)) (move_of result)) }
+fn look(
+    graph: &mut Graph,
+    visited: &Visited,
+    spare: &mut Learnt,
+    frame: &mut Open,
+    place: usize,
+) -> Turn
+    ensures turn { move_of result frame.new ≡ looked graph.old.state.signals graph.old.state.memos (evaluating graph.old.state) (passed_over graph.old.state.signals graph.old.state.memos visited.now) (holds_cycle graph.old.state.memos frame.old.id) place (drop place (sources_of graph.old.state.memos frame.old.id)) }
+    ensures id { frame.new.id ≡ frame.old.id }
+    ensures given { move_reads (move_of result frame.new) ≡ [] }
+    ensures after { Stays graph.old graph.new graph.old.state.progress (source_steps graph.old.state.signals (evaluating graph.old.state) visited.now (drop place (sources_of graph.old.state.memos frame.old.id)) (move_of result frame.new)) }
 {
-    let Some(id) = source_at(graph, node, place) else {
+    let Some(id) = source_at(graph, frame.id, place) else {
         return Turn::Stops;
     };
     if !is_ready(graph, visited, id) {
-        return Turn::Needs(id, Doing::LookedAt(place));
+        frame.doing = Doing::LookedAt(place);
+        return Turn::Needs(id);
     }
-    decide(alloc, graph, node, place)
+    decide(graph, spare, frame, place)
 }
 
 /// What a source that is ready is read as.
 pub(crate) fn outcome_of(graph: &Graph, id: NodeId) -> Result<Outcome, NoMemory>
     ensures { IfOk result (λ o. o ≡ or_cycle (ready_outcome (standing graph.now.state.signals id) (is_in id (evaluating graph.now.state)) (standing_outcome graph.now.state.signals graph.now.state.memos id))) }
 {
-    match graph.standing(id) {
+    outcome_as(graph, id, graph.standing(id))
+}
+
+/// The same, by what stands there.
+pub(crate) fn outcome_as(graph: &Graph, id: NodeId, kind: Standing) -> Result<Outcome, NoMemory>
+    requires { kind ≡ kind_here (standing graph.now.state.signals id) (is_computing graph.now.state id) }
+    ensures { IfOk result (λ o. o ≡ or_cycle (ready_outcome (standing graph.now.state.signals id) (is_in id (evaluating graph.now.state)) (standing_outcome graph.now.state.signals graph.now.state.memos id))) }
+{
+    match kind {
         Standing::Gone => Ok(Outcome::Bad(Fault::Gone)),
         Standing::Cell => cell_outcome(graph, id),
         Standing::Computing => Ok(Outcome::Bad(Fault::Cycle)),
@@ -140,13 +165,6 @@ fn kept_outcome(graph: &Graph, id: NodeId) -> Result<Outcome, NoMemory>
     }
 }
 
-// A run has come to its end.
-fn ended(reads: Vec<Read>, outcome: Outcome) -> Turn
-    ensures { move_of result ≡ Ends (record { reads = map seen_of reads.items; outcome = outcome }) }
-{
-    Turn::Ends(Ran { reads, outcome })
-}
-
 // A source is read as an outcome: it stands behind what was read before.
 fn add_read(reads: &mut Vec<Read>, id: NodeId, outcome: &Outcome) -> Result<(), NoMemory>
     ensures { OnOk result (map seen_of reads.new.items ≡ map seen_of reads.old.items ++ (record { name = id; outcome = outcome.now }) ∷ []) }
@@ -157,24 +175,18 @@ fn add_read(reads: &mut Vec<Read>, id: NodeId, outcome: &Outcome) -> Result<(), 
 }
 
 // A slot is read as an outcome: a good value is told to the recipe, and a fault ends the run.
-fn tell(
-    slot: u32,
-    id: NodeId,
-    outcome: Outcome,
-    known: Vec<Known>,
-    reads: Vec<Read>,
-) -> Result<Turn, NoMemory>
-    ensures { IfOk result (λ t. move_of t ≡ slot_read slot id (Some outcome) known.items (map seen_of reads.items)) }
+fn tell(frame: &mut Open, slot: u32, id: NodeId, outcome: Outcome) -> Result<Turn, NoMemory>
+    ensures turn { IfOk result (λ t. move_of t frame.new ≡ slot_read slot id (Some outcome) frame.old.learnt.known.items (map seen_of frame.old.learnt.reads.items)) }
+    ensures id { OnOk result (frame.new.id ≡ frame.old.id) }
 {
-    let mut known = known;
-    let mut reads = reads;
-    add_read(&mut reads, id, &outcome)?;
+    add_read(&mut frame.learnt.reads, id, &outcome)?;
     match outcome {
         Outcome::Good(value) => {
-            known.push(Known { slot, value })?;
-            Ok(Turn::GoesOn(Doing::Running(known, reads)))
+            frame.learnt.known.push(Known { slot, value })?;
+            frame.doing = Doing::Running;
+            Ok(Turn::GoesOn)
         }
-        Outcome::Bad(fault) => Ok(ended(reads, Outcome::Bad(fault))),
+        Outcome::Bad(fault) => Ok(Turn::Ends(Outcome::Bad(fault))),
     }
 }
 
@@ -191,37 +203,36 @@ fn slot_of(graph: &Graph, node: NodeId, slot: u32) -> NodeId
 }
 
 // A slot is waited for.
-fn wait(
-    graph: &mut Graph,
-    visited: &Visited,
-    node: NodeId,
-    slot: u32,
-    known: Vec<Known>,
-    reads: Vec<Read>,
-) -> Result<Turn, NoMemory>
-    requires slot { slot < length (slots_here (standing graph.old.state.signals node)) }
-    requires given { AreReadsGiven graph.old (map seen_of reads.items) }
-    ensures turn { IfOk result (λ t. move_of t ≡ waits graph.old.state.signals graph.old.state.memos (evaluating graph.old.state) (passed_over graph.old.state.signals graph.old.state.memos visited.now) slot (slice_index (slots_here (standing graph.old.state.signals node)) slot) known.items (map seen_of reads.items)) }
-    ensures given { IfOk result (λ t. AreReadsGiven graph.old (move_reads (move_of t))) }
-    ensures after { OnOk result (Stays graph.old graph.new graph.old.state.progress (look_steps (standing graph.old.state.signals (slice_index (slots_here (standing graph.old.state.signals node)) slot)) (is_in (slice_index (slots_here (standing graph.old.state.signals node)) slot) (evaluating graph.old.state)) (is_in (slice_index (slots_here (standing graph.old.state.signals node)) slot) visited.now))) }
+fn wait(graph: &mut Graph, visited: &Visited, frame: &mut Open, slot: u32) -> Result<Turn, NoMemory>
+    requires slot { slot < length (slots_here (standing graph.old.state.signals frame.old.id)) }
+    requires given { AreReadsGiven graph.old (map seen_of frame.old.learnt.reads.items) }
+    ensures turn { IfOk result (λ t. move_of t frame.new ≡ waits graph.old.state.signals graph.old.state.memos (evaluating graph.old.state) (passed_over graph.old.state.signals graph.old.state.memos visited.now) slot (slice_index (slots_here (standing graph.old.state.signals frame.old.id)) slot) frame.old.learnt.known.items (map seen_of frame.old.learnt.reads.items)) }
+    ensures id { OnOk result (frame.new.id ≡ frame.old.id) }
+    ensures given { IfOk result (λ t. AreReadsGiven graph.old (move_reads (move_of t frame.new))) }
+    ensures after { OnOk result (Stays graph.old graph.new graph.old.state.progress (look_steps (standing graph.old.state.signals (slice_index (slots_here (standing graph.old.state.signals frame.old.id)) slot)) (is_in (slice_index (slots_here (standing graph.old.state.signals frame.old.id)) slot) (evaluating graph.old.state)) (is_in (slice_index (slots_here (standing graph.old.state.signals frame.old.id)) slot) visited.now))) }
 {
-    let id = slot_of(graph, node, slot);
+    let id = slot_of(graph, frame.id, slot);
     if !is_ready(graph, visited, id) {
-        return Ok(Turn::Needs(id, Doing::Waiting(slot, known, reads)));
+        frame.doing = Doing::Waiting(slot);
+        return Ok(Turn::Needs(id));
     }
     let outcome = outcome_of(graph, id)?;
-    let turn = tell(slot, id, outcome, known, reads)?;
+    let turn = tell(frame, slot, id, outcome)?;
     Ok(turn)
 }
 
 // A recipe has answered.
-fn answered(answer: Step, known: Vec<Known>, reads: Vec<Read>) -> Turn
-    ensures { move_of result ≡ answered answer known.items (map seen_of reads.items) }
+fn answered(frame: &mut Open, answer: Step) -> Turn
+    ensures turn { move_of result frame.new ≡ answered answer frame.old.learnt.known.items (map seen_of frame.old.learnt.reads.items) }
+    ensures id { frame.new.id ≡ frame.old.id }
 {
     match answer {
-        Step::Done(value) => ended(reads, Outcome::Good(value)),
-        Step::Fail(fault) => ended(reads, Outcome::Bad(fault)),
-        Step::Read(slot) => Turn::GoesOn(Doing::Waiting(slot, known, reads)),
+        Step::Done(value) => Turn::Ends(Outcome::Good(value)),
+        Step::Fail(fault) => Turn::Ends(Outcome::Bad(fault)),
+        Step::Read(slot) => {
+            frame.doing = Doing::Waiting(slot);
+            Turn::GoesOn
+        }
     }
 }
 
@@ -256,57 +267,58 @@ fn answer_of(
 }
 
 // A recipe is asked with what is known. The turn is told by the meanings of the host formulas, in its form under any, and by the ids that
-// it read; the graph has a clause of its own, and so have what the shelf answers, its counts and its asks.
+// it read; the frame and the graph have clauses of their own, and so have what the shelf answers, its counts and its asks.
 fn run(
     alloc: Global,
     graph: &mut Graph,
     shelf: &mut Shelf,
-    node: NodeId,
-    known: Vec<Known>,
-    reads: Vec<Read>,
+    frame: &mut Open,
 ) -> Result<Turn, NoMemory>
-    requires known { GoesOn (progress_at node graph.old.state.progress) known.items }
-    requires given { AreReadsGiven graph.old (map seen_of reads.items) }
+    requires known { GoesOn (progress_at frame.old.id graph.old.state.progress) frame.old.learnt.known.items }
+    requires given { AreReadsGiven graph.old (map seen_of frame.old.learnt.reads.items) }
     requires counted { ⟦<Shelf as Lent>⟧.counted shelf.old }
-    requires host { CanAsk (host_here (standing graph.old.state.signals node)) (⟦<Shelf as Lent>⟧.asked shelf.old) }
-    ensures turn { (hosts : Hosts) → ⟦<Shelf as Lent>⟧.answers hosts shelf.old → IfOk result (λ t. move_of t ≡ answered (answer_here hosts (standing graph.old.state.signals node) known.items) known.items (map seen_of reads.items)) }
-    ensures some { IfOk result (λ t. IsAnswered (slots_here (standing graph.old.state.signals node)) known.items (map seen_of reads.items) (move_of t)) }
-    ensures given { IfOk result (λ t. AreReadsGiven graph.old (move_reads (move_of t))) }
-    ensures after { OnOk result (Stays graph.old graph.new (progressed node (Some known.items) graph.old.state.progress) 1) }
+    requires host { CanAsk (host_here (standing graph.old.state.signals frame.old.id)) (⟦<Shelf as Lent>⟧.asked shelf.old) }
+    ensures turn { (hosts : Hosts) → ⟦<Shelf as Lent>⟧.answers hosts shelf.old → IfOk result (λ t. move_of t frame.new ≡ answered (answer_here hosts (standing graph.old.state.signals frame.old.id) frame.old.learnt.known.items) frame.old.learnt.known.items (map seen_of frame.old.learnt.reads.items)) }
+    ensures id { OnOk result (frame.new.id ≡ frame.old.id) }
+    ensures some { IfOk result (λ t. IsAnswered (slots_here (standing graph.old.state.signals frame.old.id)) frame.old.learnt.known.items (map seen_of frame.old.learnt.reads.items) (move_of t frame.new)) }
+    ensures given { IfOk result (λ t. AreReadsGiven graph.old (move_reads (move_of t frame.new))) }
+    ensures after { OnOk result (Stays graph.old graph.new (progressed frame.old.id (Some frame.old.learnt.known.items) graph.old.state.progress) 1) }
     ensures answers { (hosts : Hosts) → ⟦<Shelf as Lent>⟧.answers hosts shelf.old → OnOk result (⟦<Shelf as Lent>⟧.answers hosts shelf.new) }
     ensures counted { OnOk result (⟦<Shelf as Lent>⟧.counted shelf.new) }
-    ensures asked { OnOk result (⟦<Shelf as Lent>⟧.asked shelf.new ≡ asked_once (host_here (standing graph.old.state.signals node)) (⟦<Shelf as Lent>⟧.asked shelf.old)) }
+    ensures asked { OnOk result (⟦<Shelf as Lent>⟧.asked shelf.new ≡ asked_once (host_here (standing graph.old.state.signals frame.old.id)) (⟦<Shelf as Lent>⟧.asked shelf.old)) }
 {
-    let asked = graph.recipe(node, &known)?;
-    let answer = answer_of(alloc, graph, shelf, node, asked, &known)?;
-    Ok(answered(answer, known, reads))
+    let asked = graph.recipe(frame.id, &frame.learnt.known)?;
+    let answer = answer_of(alloc, graph, shelf, frame.id, asked, &frame.learnt.known)?;
+    Ok(answered(frame, answer))
 }
 
-/// One step of a frame. Its clauses are those of a recipe that is asked, for any phase: the turn by the meanings of the host formulas, in
-/// its form and by the ids that it read, the graph, and what the shelf answers, its counts and its asks.
+/// One step of a frame, which is left in its new phase. Its clauses are those of a recipe that is asked, for any phase: the turn by the
+/// meanings of the host formulas, in its form and by the ids that it read, the frame, the graph, and what the shelf answers, its counts
+/// and its asks.
 pub(crate) fn turn_of(
     alloc: Global,
     graph: &mut Graph,
     shelf: &mut Shelf,
     visited: &Visited,
-    frame: Open,
+    spare: &mut Learnt,
+    frame: &mut Open,
 ) -> Result<Turn, NoMemory>
-    requires fits { Fits graph.old (frame_of frame) }
+    requires fits { Fits graph.old (frame_of frame.old) }
     requires counted { ⟦<Shelf as Lent>⟧.counted shelf.old }
-    requires host { CanAsk (host_here (standing graph.old.state.signals frame.id)) (⟦<Shelf as Lent>⟧.asked shelf.old) }
-    ensures turn { (hosts : Hosts) → ⟦<Shelf as Lent>⟧.answers hosts shelf.old → IfOk result (λ t. move_of t ≡ move_by hosts graph.old.state.signals graph.old.state.memos (evaluating graph.old.state) (passed_over graph.old.state.signals graph.old.state.memos visited.now) frame.id (phase_of frame.doing)) }
-    ensures some { IfOk result (λ t. IsMove graph.old.state.signals graph.old.state.memos (evaluating graph.old.state) (passed_over graph.old.state.signals graph.old.state.memos visited.now) frame.id (phase_of frame.doing) (move_of t)) }
-    ensures given { IfOk result (λ t. AreReadsGiven graph.old (move_reads (move_of t))) }
-    ensures after { IfOk result (λ t. Stays graph.old graph.new (progress_by frame.id (phase_of frame.doing) graph.old.state.progress) (turn_steps graph.old.state.signals graph.old.state.memos (evaluating graph.old.state) visited.now frame.id (phase_of frame.doing) (move_of t))) }
+    requires host { CanAsk (host_here (standing graph.old.state.signals frame.old.id)) (⟦<Shelf as Lent>⟧.asked shelf.old) }
+    ensures turn { (hosts : Hosts) → ⟦<Shelf as Lent>⟧.answers hosts shelf.old → IfOk result (λ t. move_of t frame.new ≡ move_by hosts graph.old.state.signals graph.old.state.memos (evaluating graph.old.state) (passed_over graph.old.state.signals graph.old.state.memos visited.now) frame.old.id (phase_of frame.old.doing frame.old.learnt)) }
+    ensures id { OnOk result (frame.new.id ≡ frame.old.id) }
+    ensures some { IfOk result (λ t. IsMove graph.old.state.signals graph.old.state.memos (evaluating graph.old.state) (passed_over graph.old.state.signals graph.old.state.memos visited.now) frame.old.id (phase_of frame.old.doing frame.old.learnt) (move_of t frame.new)) }
+    ensures given { IfOk result (λ t. AreReadsGiven graph.old (move_reads (move_of t frame.new))) }
+    ensures after { IfOk result (λ t. Stays graph.old graph.new (progress_by frame.old.id (phase_of frame.old.doing frame.old.learnt) graph.old.state.progress) (turn_steps graph.old.state.signals graph.old.state.memos (evaluating graph.old.state) visited.now frame.old.id (phase_of frame.old.doing frame.old.learnt) (move_of t frame.new))) }
     ensures answers { (hosts : Hosts) → ⟦<Shelf as Lent>⟧.answers hosts shelf.old → OnOk result (⟦<Shelf as Lent>⟧.answers hosts shelf.new) }
     ensures counted { OnOk result (⟦<Shelf as Lent>⟧.counted shelf.new) }
-    ensures asked { OnOk result (⟦<Shelf as Lent>⟧.asked shelf.new ≡ places_by (standing graph.old.state.signals frame.id) (phase_of frame.doing) (⟦<Shelf as Lent>⟧.asked shelf.old)) }
+    ensures asked { OnOk result (⟦<Shelf as Lent>⟧.asked shelf.new ≡ places_by (standing graph.old.state.signals frame.old.id) (phase_of frame.old.doing frame.old.learnt) (⟦<Shelf as Lent>⟧.asked shelf.old)) }
 {
-    let node = frame.id;
     match frame.doing {
-        Doing::Looking(place) => Ok(look(alloc, graph, visited, node, place)),
-        Doing::LookedAt(place) => Ok(look(alloc, graph, visited, node, place)),
-        Doing::Running(known, reads) => run(alloc, graph, shelf, node, known, reads),
-        Doing::Waiting(slot, known, reads) => wait(graph, visited, node, slot, known, reads),
+        Doing::Looking(place) => Ok(look(graph, visited, spare, frame, place)),
+        Doing::LookedAt(place) => Ok(look(graph, visited, spare, frame, place)),
+        Doing::Running => run(alloc, graph, shelf, frame),
+        Doing::Waiting(slot) => wait(graph, visited, frame, slot),
     }
 }

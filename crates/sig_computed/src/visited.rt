@@ -41,13 +41,17 @@ impl Visited {
         }
     }
 
+    /// Whether a computed was visited last.
+    pub(crate) fn is_last(&self, id: NodeId) -> bool
+        ensures { result ≡ true → is_in id self.now ≡ true }
+    {
+        is_last(&self.ids, id)
+    }
+
     /// Whether a computed is among them.
     pub(crate) fn has(&self, id: NodeId) -> bool
         ensures { result ≡ is_in id self.now }
     {
-        if is_last(&self.ids, id) {
-            return true;
-        }
         self.ids.contains(&id)
     }
 
