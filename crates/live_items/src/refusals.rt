@@ -511,8 +511,8 @@ fn unwatch_refusal(machine: &Machine, command: &Command) -> Result<Option<Refusa
     }
 }
 
-// The refusal of what stands behind the names.
-fn later_refusal(
+// The refusal of what stands behind the names, place by place.
+fn behind_refusal(
     machine: &Machine,
     shelf: &Shelf,
     rules: &[EqualsRule],
@@ -533,6 +533,30 @@ fn later_refusal(
     }
     let refusal = unwatch_refusal(machine, command)?;
     Ok(refusal)
+}
+
+// The refusal of what stands behind the names. Nothing does behind the name of a set or a get.
+fn later_refusal(
+    machine: &Machine,
+    shelf: &Shelf,
+    rules: &[EqualsRule],
+    command: &Command,
+) -> Result<Option<Refusal>, NoMemory>
+    requires { AreStanding machine.now.pages.items }
+    ensures { IfOk result (λ r. r ≡ later_refusal (map (λ r. r.slack) rules.now)
+        (plain_of (⟦<Shelf as Lent>⟧.asked shelf.now) machine.now) command.now) }
+{
+    match command {
+        Command::Set { .. }
+        | Command::Named {
+            verb: Verb::Get,
+            ..
+        } => Ok(None),
+        _ => {
+            let refusal = behind_refusal(machine, shelf, rules, command)?;
+            Ok(refusal)
+        }
+    }
 }
 
 /// Why a command is refused, if it is.

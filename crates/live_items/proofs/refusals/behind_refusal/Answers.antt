@@ -1,7 +1,7 @@
 use Rattle.std.proofs.Common.{◌∙◌, List, is_some, map, sym}
 use Rattle.sig_host.specs.Hosts.{HostPlace}
 use Rattle.live_items.proofs.Refused.{fourth_of, second_of, third_of_four}
-use Rattle.live_items.proofs.refusals.later_refusal.Goals as goal
+use Rattle.live_items.proofs.refusals.behind_refusal.Goals as goal
 
 pub returns-in-Some-2 : goal.returns-in-Some-2
 returns-in-Some-2 g c =
