@@ -53,7 +53,7 @@ pub(crate) fn name_at(alloc: Global, names: &[Name], number: u128) -> Result<Nam
 pub fn names_of_signals(alloc: Global, names: &[Name], ids: &[NodeId]) -> Result<NameList, NoMemory>
     ensures { IfOk result (λ l. l ≡ map (name_at names.now) ids.now) }
 {
-    let mut found = Vec::new(alloc);
+    let mut found = Vec::with_capacity(alloc, ids.len())?;
     for id in ids {
         found.push(name_at(alloc, names, id.number())?)?;
     }

@@ -1,5 +1,5 @@
 // What is told of events, each by the labels of its moment.
-ghost use Rattle.std.specs.Prelude.{◌≡◌, ◌++◌, ◌∷◌, [], List, IfOk, OnOk, map, option_map, option_to_list};
+ghost use Rattle.std.specs.Prelude.{◌≡◌, ◌≤◌, ◌+◌, ◌++◌, ◌∷◌, [], List, length, IfOk, OnOk, map, option_map, option_to_list};
 ghost use Rattle.effect_model.specs.Worlds as plain;
 ghost use Rattle.effect_tables.specs.Bodies.{thing_of};
 ghost use Rattle.sig_computed.specs.Notes.{note_of};
@@ -277,13 +277,23 @@ fn tell_one(told: &mut Vec<Entry>, labels: &mut Labels, event: &Event) -> Result
     }
 }
 
+// Room for what is told of events, and for one entry behind it; none where there is no event.
+fn room_for(events: &[Event]) -> usize
+    ensures { result ≤ length events.now + 1 }
+{
+    if events.is_empty() {
+        return 0;
+    }
+    events.len() + 1
+}
+
 // Tells of events, one by one, each by the labels of its moment.
 fn tell_each(alloc: Global, labels: &mut Labels, events: &[Event]) -> Result<Vec<Entry>, NoMemory>
     ensures entries { (ts : List plain.Event) → AreTold events.now ts → IfOk result (λ es. es.items ≡ entries_of (labels_of labels.old) ts) }
     ensures labels { (ts : List plain.Event) → AreTold events.now ts → OnOk result (labels_of labels.new ≡ labels_after ts (labels_of labels.old)) }
     ensures names { OnOk result (KeepsNames labels.old labels.new) }
 {
-    let mut told = Vec::new(alloc);
+    let mut told = Vec::with_capacity(alloc, room_for(events))?;
     for event in events {
         tell_one(&mut told, labels, event)?;
     }
