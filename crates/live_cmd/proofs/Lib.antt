@@ -9,6 +9,7 @@ mod Lengths
 mod Heads
 mod Numbers
 mod Blocks
+mod Commonest
 mod Plain
 mod Spellings
 mod TemplateNumbers

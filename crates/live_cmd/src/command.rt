@@ -1,6 +1,6 @@
 // Commands and the items of a script.
-ghost use Rattle.std.specs.Prelude.{◌≡◌, map, IfOk};
-ghost use Rattle.live_cmd.specs.Words.{bare_of, bare_word, found, verb_of, verb_word};
+ghost use Rattle.std.specs.Prelude.{◌≡◌, IfOk};
+ghost use Rattle.live_cmd.specs.Words.{bare_of, bare_word, verb_of, verb_word};
 ghost use Rattle.sig_untrack.specs.Stated.{before, no_bodies};
 
 use formula_text::Wired;
@@ -115,19 +115,6 @@ const BARES: [(Bare, &str); 5] = [
     (Bare::Record, "record"),
 ];
 
-// What stands in the first of these rows that has this word.
-fn found<T: Copy>(mut rows: &[(T, &str)], word: &str) -> Option<T>
-    ensures { result ≡ found (map (λ r. (r.1.now, r.0)) rows.entry.now) word.now }
-{
-    while let [row, rest @ ..] = rows {
-        if word == row.1 {
-            return Some(row.0);
-        }
-        rows = rest;
-    }
-    None
-}
-
 impl Verb {
     /// Its word.
     pub fn word(self) -> &'static str
@@ -137,10 +124,21 @@ impl Verb {
     }
 
     /// The verb that has this word.
+    #[tactic(auto, using(sig_base::proofs::Lengths::unlike))]
     pub fn of(word: &str) -> Option<Verb>
         ensures { result ≡ verb_of word.now }
     {
-        found(&VERBS, word)
+        match word.len() {
+            3 if word == "get" => Some(Verb::Get),
+            3 if word == "why" => Some(Verb::Why),
+            4 if word == "show" => Some(Verb::Show),
+            5 if word == "state" => Some(Verb::State),
+            7 if word == "sources" => Some(Verb::Sources),
+            7 if word == "scratch" => Some(Verb::Scratch),
+            7 if word == "dispose" => Some(Verb::Dispose),
+            7 if word == "pending" => Some(Verb::Pending),
+            _ => None,
+        }
     }
 }
 
@@ -153,10 +151,18 @@ impl Bare {
     }
 
     /// The command of one word that has this word.
+    #[tactic(auto, using(sig_base::proofs::Lengths::unlike))]
     pub fn of(word: &str) -> Option<Bare>
         ensures { result ≡ bare_of word.now }
     {
-        found(&BARES, word)
+        match word.len() {
+            5 if word == "flush" => Some(Bare::Flush),
+            5 if word == "begin" => Some(Bare::Begin),
+            5 if word == "abort" => Some(Bare::Abort),
+            6 if word == "commit" => Some(Bare::Commit),
+            6 if word == "record" => Some(Bare::Record),
+            _ => None,
+        }
     }
 }
 

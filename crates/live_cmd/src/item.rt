@@ -8,12 +8,14 @@ ghost use Rattle.live_cmd.specs.Items.{any_long, command_of, is_alone, item_or, 
 ghost use Rattle.live_cmd.specs.Views.{found_of, item_read, many_told, IsPlain};
 
 use crate::block::block_of;
+use crate::common::common_item;
 use crate::fields::has_many_fields;
 use crate::judge::refused_for;
 use crate::line::Found;
 use crate::reader::read_line;
 use crate::{Item, Line};
 use formula_text::FormulaFault;
+use line_forms::Unread;
 use live_entries::{LimitWord, Refusal};
 use script_lines::{NumberedLine, Piece, next_piece};
 use sig_base::{MOST_LINE, NoMemory};
@@ -78,8 +80,8 @@ fn found_item(number: u32, found: Box<Found>) -> Item
     told_item(number, Box::into_inner(found))
 }
 
-// What a line is that begins no block.
-fn plain_item(alloc: Global, line: NumberedLine) -> Result<Item, NoMemory>
+// What a line is by its tokens, if it begins no block.
+fn told_by_tokens(alloc: Global, line: NumberedLine) -> Result<Item, NoMemory>
     requires { length line.text.now ≤ MOST_LINE }
     ensures { IfOk result (λ i. IsPlain (line_of line.entry) i) }
 {
@@ -87,6 +89,18 @@ fn plain_item(alloc: Global, line: NumberedLine) -> Result<Item, NoMemory>
         return Ok(Item::Refused(Refusal::Syntax(line.number)));
     };
     Ok(found_item(line.number, found))
+}
+
+// What a line is that begins no block. The commonest lines are looked at before all others.
+fn plain_item(alloc: Global, line: NumberedLine) -> Result<Item, NoMemory>
+    requires { length line.text.now ≤ MOST_LINE }
+    ensures { IfOk result (λ i. IsPlain (line_of line.entry) i) }
+{
+    match common_item(alloc, line.text) {
+        Ok(item) => Ok(item),
+        Err(Unread::NotThere) => told_by_tokens(alloc, line),
+        Err(Unread::NoMemory(e)) => Err(e),
+    }
 }
 
 // Whether one of lines has more than `MOST_LINE` bytes.

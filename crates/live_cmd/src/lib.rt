@@ -3,6 +3,7 @@
 
 mod block;
 mod command;
+mod common;
 mod contents;
 mod fields;
 mod item;

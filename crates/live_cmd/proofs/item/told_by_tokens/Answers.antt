@@ -1,7 +1,7 @@
 use Rattle.std.proofs.Common.{refl, inr}
 use Rattle.script_lines.specs.Views.{line_of}
 use Rattle.live_cmd.proofs.Plain.{plain_alone}
-use Rattle.live_cmd.proofs.item.plain_item.Goals as goal
+use Rattle.live_cmd.proofs.item.told_by_tokens.Goals as goal
 
 pub returns-in_default : goal.returns-in_default
 returns-in_default c = inr (rw c.in_default.is at c.in_ok-found.ensures, refl)

@@ -1,0 +1,76 @@
+// Reads the commonest lines, of which each part stands behind one blank, without cutting them into tokens.
+ghost use Rattle.std.specs.Prelude.{◌≡◌, ◌∷◌, ◌++◌, ℕ, codes, IfOk, IfSome};
+ghost use Rattle.std.specs.Fmt.{signed_decimal};
+ghost use Rattle.std.specs.Int.{w64};
+ghost use Rattle.std.specs.Int.RustNames.{FitsSigned};
+ghost use Rattle.live_cmd.specs.Views.{IsPlain};
+
+use crate::{Command, Item, Verb};
+use line_forms::{Unread, as_name};
+use sig_base::Scalar;
+use sig_words::integer;
+use std::alloc::Global;
+
+// `get N`, behind the word and a blank.
+fn get(alloc: Global, text: &[u8]) -> Result<Item, Unread>
+    ensures { (k : ℕ) → IfOk result (λ i. IsPlain (k, codes "get " ++ text.now) i) }
+{
+    let name = as_name(alloc, text)?;
+    let verb = Verb::Get;
+    Ok(Item::Do(Command::Named { verb, name }))
+}
+
+// What stands before the first blank, and what behind it.
+fn parted(text: &[u8]) -> Option<(&[u8], &[u8])>
+    ensures { IfSome result (λ p. text.now ≡ p.0.now ++ 32 ∷ p.1.now) }
+{
+    let at = text.iter().position(|b| *b == b' ')?;
+    let (front, rest) = text.split_at(at);
+    let (blank, behind) = rest.split_first()?;
+    if *blank != b' ' {
+        return None;
+    }
+    Some((front, behind))
+}
+
+// The whole number that a text is.
+fn whole(text: &[u8]) -> Option<i64>
+    ensures { IfSome result (λ z. FitsSigned w64 z × (text.now ≡ signed_decimal z)) }
+{
+    let Some(value) = integer(text) else {
+        return None;
+    };
+    Some(value)
+}
+
+// `set N LIT` with a whole number, behind the word and a blank.
+fn set(alloc: Global, text: &[u8]) -> Result<Item, Unread>
+    ensures { (k : ℕ) → IfOk result (λ i. IsPlain (k, codes "set " ++ text.now) i) }
+{
+    let Some((name, number)) = parted(text) else {
+        return Err(Unread::NotThere);
+    };
+    let Some(value) = whole(number) else {
+        return Err(Unread::NotThere);
+    };
+    let name = as_name(alloc, name)?;
+    let value = Scalar::Int(value);
+    Ok(Item::Do(Command::Set { name, value }))
+}
+
+/// What one of the commonest lines is; nothing of another, even where it says something.
+pub fn common_item(alloc: Global, line: &[u8]) -> Result<Item, Unread>
+    ensures { (k : ℕ) → IfOk result (λ i. IsPlain (k, line.now) i) }
+{
+    if line.len() < 4 {
+        return Err(Unread::NotThere);
+    }
+    let (front, text) = line.split_at(4);
+    if front == b"get ".as_slice() {
+        return get(alloc, text);
+    }
+    if front == b"set ".as_slice() {
+        return set(alloc, text);
+    }
+    Err(Unread::NotThere)
+}
