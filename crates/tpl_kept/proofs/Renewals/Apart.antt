@@ -8,7 +8,6 @@ use Rattle.tpl_model.specs.Lines.{Block, empty, text, tag, choice, each, attempt
 use Rattle.tpl_hearing.specs.Heard.{Outcomes}
 use Rattle.tpl_hearing.proofs.Shared.{outcome_in}
 use Rattle.tpl_model.specs.KeptLines.Kept.{heard_of, kept}
-use Rattle.tpl_model.specs.declared.memo.Heard.{Heard}
 use Rattle.tpl_model.specs.PageUpdates.PageMemos.{PageMemo, unread, blank, line, element, branch, loop, either}
 use Rattle.tpl_model.specs.KeptLines.Memos.{branch_memo, lines_memo, table_in, truth_in}
 use Rattle.tpl_model.specs.KeptLines.Before.{WasMade}
@@ -177,50 +176,3 @@ behind_ready (each f inner rest) links row before a c h r ms x was e =
     subst (λ z. WereEach rest links (behind false z row) before ms) (sym x.1.0) (if_read rest links row before r (first_of ms) was (ap first_of e), tt)
 behind_ready (attempt first second rest) links row before a c h r ms x was e =
     subst (λ z. WereEach rest links (behind false z row) before ms) (sym x.2.0) (if_read rest links row before r (first_of ms) was (ap first_of e), tt)
-
--- ---- what was heard of a line of each kind
-
-pub text_opens : (n : ℕ) (f : Tree) (rest : Block) (links : List ℕ) (row : Option RowRef) (before : Outcomes) (h : Head) →
-    WasOpened (text n f rest) links row before h → ((x : Heard) → h ≡ head.Text x → ⊥) → ⊥
-text_opens n f rest links row before head.Nothing was other = was
-text_opens n f rest links row before (head.Attempt x y) was other = was
-text_opens n f rest links row before (head.Text x) was other = other x refl
-text_opens n f rest links row before (head.Tag all) was other = was
-text_opens n f rest links row before (head.Choice x) was other = was
-text_opens n f rest links row before (head.Each x) was other = was
-
-pub tag_opens : (n : ℕ) (name : List ℕ) (xs : List (List ℕ × Tree)) (inner rest : Block) (links : List ℕ) (row : Option RowRef) (before : Outcomes)
-    (h : Head) → WasOpened (tag n name xs inner rest) links row before h → ((all : _) → h ≡ head.Tag all → ⊥) → ⊥
-tag_opens n name xs inner rest links row before head.Nothing was other = was
-tag_opens n name xs inner rest links row before (head.Attempt x y) was other = was
-tag_opens n name xs inner rest links row before (head.Text x) was other = was
-tag_opens n name xs inner rest links row before (head.Tag all) was other = other all refl
-tag_opens n name xs inner rest links row before (head.Choice x) was other = was
-tag_opens n name xs inner rest links row before (head.Each x) was other = was
-
-pub choice_opens : (f : Tree) (one other rest : Block) (links : List ℕ) (row : Option RowRef) (before : Outcomes) (h : Head) →
-    WasOpened (choice f one other rest) links row before h → ((x : Heard) → h ≡ head.Choice x → ⊥) → ⊥
-choice_opens f one two rest links row before head.Nothing was other = was
-choice_opens f one two rest links row before (head.Attempt x y) was other = was
-choice_opens f one two rest links row before (head.Text x) was other = was
-choice_opens f one two rest links row before (head.Tag all) was other = was
-choice_opens f one two rest links row before (head.Choice x) was other = other x refl
-choice_opens f one two rest links row before (head.Each x) was other = was
-
-pub each_opens : (f : Tree) (inner rest : Block) (links : List ℕ) (row : Option RowRef) (before : Outcomes) (h : Head) →
-    WasOpened (each f inner rest) links row before h → ((x : Heard) → h ≡ head.Each x → ⊥) → ⊥
-each_opens f inner rest links row before head.Nothing was other = was
-each_opens f inner rest links row before (head.Attempt x y) was other = was
-each_opens f inner rest links row before (head.Text x) was other = was
-each_opens f inner rest links row before (head.Tag all) was other = was
-each_opens f inner rest links row before (head.Choice x) was other = was
-each_opens f inner rest links row before (head.Each x) was other = other x refl
-
-pub attempt_opens : (first second rest : Block) (links : List ℕ) (row : Option RowRef) (before : Outcomes) (h : Head) →
-    WasOpened (attempt first second rest) links row before h → ((x y : _) → h ≡ head.Attempt x y → ⊥) → ⊥
-attempt_opens first second rest links row before head.Nothing was other = was
-attempt_opens first second rest links row before (head.Text x) was other = was
-attempt_opens first second rest links row before (head.Tag all) was other = was
-attempt_opens first second rest links row before (head.Choice x) was other = was
-attempt_opens first second rest links row before (head.Each x) was other = was
-attempt_opens first second rest links row before (head.Attempt x y) was other = other x y refl
