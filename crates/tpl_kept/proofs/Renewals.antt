@@ -1,6 +1,9 @@
 pub mod Apart
 pub mod Named
 pub mod RowMemos
+pub mod Standing
+pub mod Rounds
 pub mod Changes
 pub mod Nameless
+pub mod Silent
 pub mod Turns

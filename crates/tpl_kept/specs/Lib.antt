@@ -2,4 +2,5 @@ pub mod Renewals
 pub mod Heads
 pub mod Changes
 pub mod Nameless
+pub mod Rounds
 pub mod Turns

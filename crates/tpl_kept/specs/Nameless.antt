@@ -1,6 +1,9 @@
 -- What is kept that stays though nothing is heard.
-use Rattle.std.specs.Prelude.{◌≡◌, ℕ, zero, suc, false, List, [], ◌∷◌, ◌++◌, Option}
+use Rattle.std.specs.Prelude.{◌≡◌, ◌&&◌, ℕ, zero, suc, Bool, true, false, List, [], ◌∷◌, ◌++◌, Option}
+use Rattle.sig_formula.specs.Trees as tree
+use Rattle.sig_formula.specs.Trees.{Tree}
 use Rattle.sig_formula.specs.declared.formula.RowRef.{RowRef}
+use Rattle.tpl_model.specs.Lines.{Block, empty, text, tag, choice, each, attempt}
 use Rattle.tpl_model.specs.KeptLines.Changes.{Change, stays}
 use Rattle.tpl_model.specs.PageUpdates.PageMemos.{PageMemo, names}
 use Rattle.tpl_kept.specs.Renewals.{is_unread}
@@ -10,6 +13,39 @@ use Rattle.tpl_kept.specs.Turns.{first_of, later_of}
 pub record ReadsNone (m : PageMemo) : Type 0 where
   pub read : is_unread m ≡ false
   pub none : names m ≡ []
+
+-- whether a formula has no slot
+abbrev pub slotless : Tree → Bool
+slotless (tree.literal s) = true
+slotless (tree.slot n) = false
+slotless (tree.row_field g) = true
+slotless tree.row_key = true
+slotless (tree.negation a) = slotless a
+slotless (tree.binary o a b) = slotless a && slotless b
+slotless (tree.choice t a b) = slotless t && (slotless a && slotless b)
+slotless (tree.count_of a) = slotless a
+slotless (tree.sum_of a b) = slotless a && slotless b
+slotless (tree.rows_where a b) = slotless a && slotless b
+slotless (tree.untracked a) = slotless a
+
+-- so it is for each of some attributes
+abbrev pub all_slotless : List (List ℕ × Tree) → Bool
+all_slotless [] = true
+all_slotless (x ∷ xs) = slotless x.1 && all_slotless xs
+
+-- whether no line has a formula with a slot; of lines with a loop or a `try` it isn't known
+abbrev pub nameless : Block → Bool
+nameless empty = true
+nameless (text n f rest) = slotless f && nameless rest
+nameless (tag n name xs inner rest) = all_slotless xs && (nameless inner && nameless rest)
+nameless (choice f one other rest) = slotless f && (nameless one && (nameless other && nameless rest))
+nameless (each f inner rest) = false
+nameless (attempt first second rest) = false
+
+-- what was kept in each of some rows read no name, as far as something was
+abbrev pub AreNameless : List (Option RowRef) → List PageMemo → Type 0
+AreNameless [] ms = Unit {0}
+AreNameless (r ∷ rs) ms = (is_unread (first_of ms) ≡ false → ReadsNone (first_of ms)) × AreNameless rs (later_of ms)
 
 -- what was kept in so many rows, one after the other, is put behind what is kept, and that it stays behind what became of that
 abbrev pub KeepsRows : ℕ → List (Option RowRef) → List PageMemo → List PageMemo → List Change →

@@ -1,7 +1,8 @@
 -- How what was kept of lines is brought up to date: some of it stays whole, and of the rest the first line is heard again, before what is inside
 -- it and what is behind it.
-use Rattle.std.specs.Prelude.{◌≡◌, ◌<◌, ℕ, Bool, true, false, List, [], ◌∷◌, length, map, Option, None, IfSome}
+use Rattle.std.specs.Prelude.{◌≡◌, ◌<◌, ℕ, Bool, true, false, List, [], ◌∷◌, drop, length, map, Option, None, IfSome}
 use Rattle.sig_base.specs.Tables.{Table}
+use Rattle.sig_base.specs.declared.rows.Row.{Row}
 use Rattle.sig_base.specs.declared.value.Fault.TheVariants.{Gone}
 use Rattle.sig_base.specs.declared.value.Outcome.{Outcome}
 use Rattle.sig_base.specs.declared.value.Outcome.TheVariants.{Bad}
@@ -91,6 +92,15 @@ abbrev pub ServeRows : Table → Table → List PageMemo → List PageMemo → T
 ServeRows t u old ms =
     (b : Block) (links : List ℕ) (before : Outcomes) → SlotsWere b links t 0 before old → WereEach b links (places_from u 0 (length u.rows)) before ms
 
+-- what is left of what was kept for the rows of a table is some of it, each at its place
+abbrev pub SlotsStay : Table → List PageMemo → List PageMemo → Type 0
+SlotsStay t old ms = (b : Block) (links : List ℕ) (before : Outcomes) → SlotsWere b links t 0 before old → SlotsWere b links t 0 before ms
+
+-- where the rows that are left have the same keys, all have
+abbrev pub KeysLeft : List Row → List Row → ℕ → Type 0
+KeysLeft was rows n =
+    map (λ (r : Row). r.key) (drop n was) ≡ map (λ (r : Row). r.key) (drop n rows) → map (λ (r : Row). r.key) was ≡ map (λ (r : Row). r.key) rows
+
 -- a row of the key and the values of this one stands among those of a table
 pub record IsAmong (t : Table) (r : RowRef) : Type 0 where
   pub place : ℕ
@@ -101,6 +111,12 @@ pub record IsAmong (t : Table) (r : RowRef) : Type 0 where
 abbrev pub AreAmong : Table → List (Option RowRef) → List PageMemo → Type 0
 AreAmong t [] ms = Unit {0}
 AreAmong t (r ∷ rs) ms = (is_unread (first_of ms) ≡ false → IfSome r (λ s. IsAmong t s)) × AreAmong t rs (later_of ms)
+
+-- of what was kept for the rows of one table some is left, each at its place, and serves for the first so many rows of another
+pub record RowsStand (t u : Table) (n : ℕ) (old ms : List PageMemo) : Type 0 where
+  pub left : SlotsStay t old ms
+  pub serve : (b : Block) (links : List ℕ) (before : Outcomes) → SlotsWere b links t 0 before old → WereEach b links (places_from u 0 n) before ms
+  pub among : AreAmong t (places_from u 0 n) ms
 
 -- What was kept inside a line serves where it is gone over again: of an element what was kept last, of a choice that of the same branch or
 -- nothing, and of a loop that of rows that are alike.

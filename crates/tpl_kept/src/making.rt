@@ -6,6 +6,5 @@ pub(crate) use builder::hear_attempt;
 pub use builder::make;
 pub use head::Head;
 pub(crate) use head::{
-    inner_of, last, lent_row, own_row, place_behind, places_inside, put_closed, rest_of,
-    shows_first,
+    close, inner_of, last, lent_row, own_row, place_behind, places_inside, rest_of, shows_first,
 };

@@ -2,7 +2,9 @@
 mod looking;
 mod names;
 mod parts;
+mod round;
 mod rows;
+mod silent;
 mod staying;
 mod update;
 

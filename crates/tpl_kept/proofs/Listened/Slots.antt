@@ -71,7 +71,7 @@ none_taken b links t before place m ms e all = record {
 }
 
 -- in rows that are alike each line is the same
-like_row : (b : Block) (links : List ℕ) (r s : RowRef) (before : Outcomes) (m : PageMemo) → same_here r s ≡ true →
+pub like_row : (b : Block) (links : List ℕ) (r s : RowRef) (before : Outcomes) (m : PageMemo) → same_here r s ≡ true →
     WasMadeIfRead (lines_memo b) links (Some r) before m → WasMadeIfRead (lines_memo b) links (Some s) before m
 like_row b links r s before m e x = record {
   made = λ u. record {
@@ -104,7 +104,7 @@ slot_at b links t before i (suc j) d (m ∷ ms) lt all in_table =
     subst (λ z. WasMadeIfRead (lines_memo b) links (Some (row_at t z)) before (get_or ms j d)) e
     (slot_at b links t before (suc i) j d ms (omega (arith, lt)) all.1 (omega (arith, in_table)))
 
-slot_out : (b : Block) (links : List ℕ) (t : Table) (before : Outcomes) (i j : ℕ) (ms : List PageMemo) → SlotsWere b links t i before ms →
+pub slot_out : (b : Block) (links : List ℕ) (t : Table) (before : Outcomes) (i j : ℕ) (ms : List PageMemo) → SlotsWere b links t i before ms →
     SlotsWere b links t i before (slice_set ms j unread)
 slot_out b links t before i j [] all = tt
 slot_out b links t before i zero (m ∷ ms) all = ((λ lt. unread_was (lines_memo b) links (Some (row_at t i)) before unread refl), all.1)

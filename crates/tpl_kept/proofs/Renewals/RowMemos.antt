@@ -1,10 +1,8 @@
 -- What was kept for rows, taken one after the other for the rows of now.
 use Rattle.std.specs.Prelude.{slice_set, IfSome}
-use Rattle.std.specs.Str.{bytes_eq}
-use Rattle.std.proofs.Common.{◌≡◌, ℕ, zero, suc, ◌+◌, ◌<◌, ◌≤◌, true, false, List, [], ◌∷◌, ◌++◌, drop, length, get_or, map, Option, Some, None, length-append, refl, sym, ap, subst, ◌∙◌, arith}
+use Rattle.std.proofs.Common.{◌≡◌, ℕ, zero, suc, ◌+◌, ◌<◌, ◌≤◌, true, false, List, [], ◌∷◌, ◌++◌, length, get_or, map, Option, Some, None, length-append, refl, sym, ap, subst, ◌∙◌, arith}
 use Rattle.std.proofs.lemmas.Bool.{true≢false}
-use Rattle.std.proofs.lemmas.List.{drop_all, drop_more, length-map}
-use Rattle.std.proofs.lemmas.Slice.Eq.{bytes_eq-Decides}
+use Rattle.std.proofs.lemmas.List.{drop_all, length-map}
 use Rattle.sig_base.specs.Tables.{Table}
 use Rattle.sig_base.specs.declared.rows.Row.{Row}
 use Rattle.sig_formula.specs.declared.formula.RowRef.{RowRef}
@@ -19,7 +17,7 @@ use Rattle.tpl_kept.proofs.Listened.Slots.{one_taken, row_ready}
 use Rattle.tpl_kept.proofs.Listened.Rowed.{row_at}
 use Rattle.tpl_kept.specs.Heads.{last_of, places_from}
 use Rattle.tpl_kept.proofs.Made.Memos.{places_more}
-use Rattle.tpl_kept.specs.Turns.{AreAmong, IsAmong, WereEach, first_of, later_of}
+use Rattle.tpl_kept.specs.Turns.{AreAmong, IsAmong, KeysLeft, WereEach}
 
 -- ---- one that is taken
 
@@ -28,7 +26,7 @@ got f [] j x e = refl
 got f (y ∷ ys) zero x e = ap f e
 got f (y ∷ ys) (suc j) x e = got f ys j x e
 
-left_out : {A B : Type 0} (f : A → B) (xs : List A) (j : ℕ) (x : A) → map f (slice_set xs j x) ≡ slice_set (map f xs) j (f x)
+pub left_out : {A B : Type 0} (f : A → B) (xs : List A) (j : ℕ) (x : A) → map f (slice_set xs j x) ≡ slice_set (map f xs) j (f x)
 left_out f [] j x = refl
 left_out f (y ∷ ys) zero x = refl
 left_out f (y ∷ ys) (suc j) x = ap (λ z. f y ∷ z) (left_out f ys j x)
@@ -55,7 +53,7 @@ each_more b links before [] r (k ∷ ms) m e all w = absurd (omega (arith, e))
 each_more b links before (q ∷ rs) r [] m e all w = absurd (omega (arith, e))
 each_more b links before (q ∷ rs) r (k ∷ ms) m e all w = (all.0, each_more b links before rs r ms m (omega (arith, e)) all.1 w)
 
-how_many : (u : Table) (i n : ℕ) → length (places_from u i n) ≡ n
+pub how_many : (u : Table) (i n : ℕ) → length (places_from u i n) ≡ n
 how_many u i zero = refl
 how_many u i (suc n) = ap suc (how_many u (suc i) n)
 
@@ -109,20 +107,6 @@ one_count f xs ys x n e c =
     let q = length-append xs (x ∷ []) in
     omega (arith, c, l, k, p, q)
 
--- ---- what was kept first
-
-pub first_kept : {A : Type 0} (f : A → PageMemo) (all rest : List A) (x : A) → all ≡ x ∷ rest → (f x ≡ first_of (map f all)) × (map f rest ≡ later_of (map f all))
-first_kept f all rest x e = (ap (λ z. first_of (map f z)) (sym e), ap (λ z. later_of (map f z)) (sym e))
-
-pub none_first : {A : Type 0} (f : A → PageMemo) (all rest : List A) (m : PageMemo) → m ≡ unread → length all ≡ 0 → m ≡ first_of (map f all)
-none_first f [] rest m e n = e
-none_first f (x ∷ all) rest m e n = absurd (omega (arith, n))
-
-pub none_later : {A : Type 0} (f : A → PageMemo) (all rest : List A) → length all ≡ 0 → length rest ≡ 0 → map f rest ≡ later_of (map f all)
-none_later f [] [] n k = refl
-none_later f [] (y ∷ rest) n k = absurd (omega (arith, k))
-none_later f (x ∷ all) rest n k = absurd (omega (arith, n))
-
 -- ---- what was kept, taken apart
 
 pub line_apart : (m : PageMemo) (h : Heard) (r k : PageMemo) → m ≡ line h r → r ≡ k → m ≡ line h k
@@ -145,20 +129,6 @@ loop_apart m h is r k e f = e ∙ ap (λ z. loop h (rows_of h.outcome is) z) f
 -- the keys of rows
 abbrev pub keys : List Row → List (List ℕ)
 keys rs = map (λ (r : Row). r.key) rs
-
--- the row at a place, and those behind it
-row_left : (rs : List Row) (n : ℕ) (r : Row) → n < length rs → r ≡ get_or rs n r → drop n rs ≡ r ∷ drop (n + 1) rs
-row_left rs n r l e = drop_more rs n r l ∙ ap (λ z. z ∷ drop (n + 1) rs) (sym e)
-
--- where the keys of the rows that are left are the same, those of all are
-abbrev pub KeysLeft : List Row → List Row → ℕ → Type 0
-KeysLeft was rows n = keys (drop n was) ≡ keys (drop n rows) → keys was ≡ keys rows
-
-pub keys_more : (was rows : List Row) (n : ℕ) (old row : Row) → n < length was → old ≡ get_or was n old → n < length rows → row ≡ get_or rows n row →
-    bytes_eq old.key row.key ≡ true → KeysLeft was rows n → KeysLeft was rows (n + 1)
-keys_more was rows n old row there is here at same all more =
-    let key : old.key ≡ row.key = (bytes_eq-Decides old.key row.key).0 same in
-    all (ap keys (row_left was n old there is) ∙ ((λ i. key i ∷ more i) ∙ sym (ap keys (row_left rows n row here at))))
 
 -- no row is left
 pub keys_end : (was rows : List Row) (n : ℕ) → length was ≡ length rows → length rows ≤ n → KeysLeft was rows n → keys was ≡ keys rows

@@ -288,8 +288,12 @@ pub(crate) fn attempted(alloc: Global, tried: Tried) -> Result<Head, NoMemory>
     Ok(Head::Attempt(first, second))
 }
 
-// What is kept of lines, by what is kept inside the first of them and behind it.
-fn close(
+/// What is kept of lines, by what is kept inside the first of them and behind it.
+///
+/// # Errors
+///
+/// `NoMemory` alone.
+pub(crate) fn close(
     alloc: Global,
     head: Head,
     inside: Vec<PageMemo>,
@@ -322,25 +326,6 @@ fn close(
     }
 }
 
-/// Puts what is kept of lines behind what was kept, by what is kept inside the first of them and behind it.
-///
-/// # Errors
-///
-/// `NoMemory` alone.
-pub(crate) fn put_closed(
-    alloc: Global,
-    head: Head,
-    inside: Vec<PageMemo>,
-    later: Vec<PageMemo>,
-    done: &mut Vec<PageMemo>,
-) -> Result<(), NoMemory>
-    ensures { OnOk result (map kept done.new.items ≡ map kept done.old.items ++ closed head (map kept inside.items) (map kept later.items) ∷ []) }
-{
-    let memo = close(alloc, head, inside, later)?;
-    done.push(memo)?;
-    Ok(())
-}
-
 /// Puts what is kept of lines behind what was kept, once all is made of them.
 ///
 /// # Errors
@@ -356,6 +341,7 @@ pub fn put_turn(alloc: Global, turn: Turn, done: &mut Vec<PageMemo>) -> Result<(
         inside,
         later,
     } = turn;
-    put_closed(alloc, head, inside, later, done)?;
+    let memo = close(alloc, head, inside, later)?;
+    done.push(memo)?;
     Ok(())
 }

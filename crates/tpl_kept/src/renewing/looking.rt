@@ -41,7 +41,7 @@ fn is_end(memo: Option<&PageMemo>) -> bool {
 
 /// What is known of the lines inside the first one: where no line is behind it and it has one inside, what has changed stands there.
 pub(crate) fn look_inside(look: Look, turn: &Turn) -> Look {
-    if is_behind(look, turn) && turn.places.len() == 1 && is_end(turn.later_was.front()) {
+    if is_behind(look, turn) && turn.places.len() == 1 && is_end(turn.later.front()) {
         return Look::Changed;
     }
     Look::First

@@ -7,17 +7,18 @@ ghost use Rattle.tpl_model.specs.KeptLines.Memos.{truth_in};
 ghost use Rattle.tpl_kept.specs.Renewals.{is_unread};
 ghost use Rattle.tpl_kept.specs.Heads.{last_of, places_in};
 ghost use Rattle.tpl_kept.specs.Changes.{changed_of, last_change};
+ghost use Rattle.tpl_kept.specs.Rounds.{done_of, was_of};
 ghost use Rattle.tpl_kept.specs.Turns.{behind_of, first_of, kept_of, later_of, outcome_of, shows_of, IsApart, IsSame, ServeInside};
 ghost use Rattle.tpl_kept.specs.declared.making.head.Head.TheVariants as head;
 ghost use Rattle.tpl_kept.specs.declared.renewing.parts.First.TheVariants as start;
 
 use crate::listening::truth_of;
-use crate::making::{Head, last, place_behind, places_inside, put_closed, shows_first};
-use crate::renewing::rows::{rows_were, same_keys};
+use crate::making::{Head, close, last, place_behind, places_inside, shows_first};
+use crate::renewing::round::Round;
+use crate::renewing::rows::rows_were;
 use sig_base::{Fault, NoMemory, Outcome};
 use sig_formula::RowRef;
 use std::alloc::Global;
-use std::collections::VecDeque;
 use tpl_model::{Change, PageMemo};
 
 /// What is kept of lines that were brought up to date, and what became of what was kept of them.
@@ -36,19 +37,16 @@ pub(crate) enum First {
     Line(Head),
 }
 
-/// Lines that are brought up to date: what is kept of them next, where those inside the first of them are gone over, what was kept inside
-/// it and behind it, what is kept there next, and what became of what was kept there; whether all names of the first have the outcomes of before, and
-/// whether it is the same.
+/// Lines that are brought up to date: what is kept of them next, where those inside the first of them are gone over, what is kept inside it and behind
+/// it while it is brought up to date, and what became of it; whether all names of the first have the outcomes of before, and whether it is the same.
 #[derive(Drop)]
 pub(crate) struct Turn {
     pub first: Box<First>,
     pub heard: bool,
     pub same: bool,
     pub places: Vec<Option<RowRef>>,
-    pub inside_was: VecDeque<PageMemo>,
-    pub later_was: VecDeque<PageMemo>,
-    pub inside: Vec<PageMemo>,
-    pub later: Vec<PageMemo>,
+    pub inside: Round,
+    pub later: Round,
     pub inside_changes: Vec<Change>,
     pub later_changes: Vec<Change>,
 }
@@ -163,67 +161,55 @@ pub(crate) fn outcome_of(head: &Head) -> Result<Outcome, NoMemory>
     }
 }
 
-/// It alone, to be taken.
-pub(crate) fn waiting(alloc: Global, memo: PageMemo) -> Result<VecDeque<PageMemo>, NoMemory>
-    ensures { IfOk result (λ q. map kept q.items ≡ kept memo ∷ []) }
-{
-    let memos = once(alloc, memo)?;
-    Ok(VecDeque::from_vec(memos))
-}
-
-/// What was kept first, or nothing.
-pub(crate) fn next_kept(was: &mut VecDeque<PageMemo>) -> PageMemo
-    ensures first { kept result ≡ first_of (map kept was.old.items) }
-    ensures later { map kept was.new.items ≡ later_of (map kept was.old.items) }
-{
-    match was.pop_front() {
-        None => PageMemo::Unread,
-        Some(memo) => memo,
-    }
-}
-
 // What was kept of the branch that is shown, where it is that of before; otherwise nothing.
 fn branch_was(
     alloc: Global,
     was: &Outcome,
     now: &Outcome,
     inside: Vec<PageMemo>,
-) -> Result<VecDeque<PageMemo>, NoMemory>
-    ensures { IfOk result (λ q. is_unread (first_of (map kept q.items)) ≡ false →
-        (truth_in was.now ≡ truth_in now.now) × (first_of (map kept q.items) ≡ last_of (map kept inside.items))) }
+) -> Result<Round, NoMemory>
+    ensures serve { IfOk result (λ r. is_unread (first_of (was_of r)) ≡ false →
+        (truth_in was.now ≡ truth_in now.now) × (first_of (was_of r) ≡ last_of (map kept inside.items))) }
+    ensures done { IfOk result (λ r. done_of r ≡ []) }
 {
     if truth_of(was) != truth_of(now) {
-        return Ok(VecDeque::new(alloc));
+        return Ok(Round::nothing(alloc));
     }
-    let one = waiting(alloc, last(inside))?;
+    let one = Round::alone(alloc, last(inside))?;
     Ok(one)
 }
 
-/// What was kept inside a line, as far as it serves where the line is gone over again: `was` is what its test or its rows came to before, and `same`
-/// whether the line is known to be the same.
+/// What was kept inside a line, as far as it serves where the line is gone over again, and whether the line is the same: its names have the outcomes of
+/// before, or the rows of a loop their keys. `was` is what its test or its rows came to before, and `heard` whether its names have these outcomes.
+///
+/// # Errors
+///
+/// `NoMemory` alone.
 pub(crate) fn inside_was(
     alloc: Global,
-    same: bool,
+    heard: bool,
     was: &Outcome,
     head: &Head,
     inside: Vec<PageMemo>,
-) -> Result<VecDeque<PageMemo>, NoMemory>
-    ensures { IfOk result (λ q. ServeInside was.now head.now (map kept inside.items) (map kept q.items)) }
+) -> Result<(Round, bool), NoMemory>
+    ensures serve { IfOk result (λ r. ServeInside was.now head.now (map kept inside.items) (was_of r.0)) }
+    ensures same { IfOk result (λ r. IsSame was.now head.now heard r.1) }
+    ensures done { IfOk result (λ r. done_of r.0 ≡ []) }
 {
     match head {
         Head::Tag(_) => {
-            let one = waiting(alloc, last(inside))?;
-            Ok(one)
+            let one = Round::alone(alloc, last(inside))?;
+            Ok((one, heard))
         }
         Head::Choice(test) => {
             let one = branch_was(alloc, was, &test.outcome, inside)?;
-            Ok(one)
+            Ok((one, heard))
         }
         Head::Each(rows) => {
-            let each = rows_were(alloc, same, was, &rows.outcome, inside)?;
-            Ok(each)
+            let each = rows_were(alloc, was, &rows.outcome, inside)?;
+            Ok((Round::of(each.0), each.1))
         }
-        _ => Ok(VecDeque::new(alloc)),
+        _ => Ok((Round::nothing(alloc), heard)),
     }
 }
 
@@ -235,8 +221,8 @@ pub(crate) fn inside_was(
 pub(crate) fn whole(alloc: Global, memo: PageMemo, change: Change) -> Result<Turn, NoMemory>
     ensures first { IfOk result (λ t. t.first.value ≡ start.Whole (record { memo = memo; change = change })) }
     ensures places { IfOk result (λ t. t.places.items ≡ []) }
-    ensures inside { IfOk result (λ t. t.inside.items ≡ []) }
-    ensures later { IfOk result (λ t. t.later.items ≡ []) }
+    ensures inside { IfOk result (λ t. done_of t.inside ≡ []) }
+    ensures later { IfOk result (λ t. done_of t.later ≡ []) }
     ensures inside_changes { IfOk result (λ t. t.inside_changes.items ≡ []) }
     ensures later_changes { IfOk result (λ t. t.later_changes.items ≡ []) }
 {
@@ -246,23 +232,11 @@ pub(crate) fn whole(alloc: Global, memo: PageMemo, change: Change) -> Result<Tur
         heard: true,
         same: true,
         places: Vec::new(alloc),
-        inside_was: VecDeque::new(alloc),
-        later_was: VecDeque::new(alloc),
-        inside: Vec::new(alloc),
-        later: Vec::new(alloc),
+        inside: Round::nothing(alloc),
+        later: Round::nothing(alloc),
         inside_changes: Vec::new(alloc),
         later_changes: Vec::new(alloc),
     })
-}
-
-// Whether a line that was heard again is the same: its names have the outcomes of before, or the rows of a loop their keys.
-fn is_same(was: &Outcome, head: &Head, heard: bool) -> bool
-    ensures { IsSame was.now head.now heard result }
-{
-    match head {
-        Head::Each(rows) => same_keys(was, &rows.outcome),
-        _ => heard,
-    }
 }
 
 /// The first line was heard again, in the row where it stands, and whether all its names have the outcomes of before; `was` is what its test or its
@@ -283,27 +257,24 @@ pub(crate) fn taken_up(
     ensures first { IfOk result (λ t. t.first.value ≡ start.Line head.value) }
     ensures same { IfOk result (λ t. IsSame was.now head.value heard t.same) }
     ensures places { IfOk result (λ t. t.places.items ≡ places_in false head.value (option_copied row.entry)) }
-    ensures inside_was { IfOk result (λ t. ServeInside was.now head.value (map kept inside.items) (map kept t.inside_was.items)) }
-    ensures later_was { IfOk result (λ t. map kept t.later_was.items ≡ kept later.value ∷ []) }
-    ensures inside { IfOk result (λ t. t.inside.items ≡ []) }
-    ensures later { IfOk result (λ t. t.later.items ≡ []) }
+    ensures inside_was { IfOk result (λ t. ServeInside was.now head.value (map kept inside.items) (was_of t.inside)) }
+    ensures later_was { IfOk result (λ t. was_of t.later ≡ kept later.value ∷ []) }
+    ensures inside { IfOk result (λ t. done_of t.inside ≡ []) }
+    ensures later { IfOk result (λ t. done_of t.later ≡ []) }
     ensures inside_changes { IfOk result (λ t. t.inside_changes.items ≡ []) }
     ensures later_changes { IfOk result (λ t. t.later_changes.items ≡ []) }
 {
     let places = places_inside(alloc, &head, false, row)?;
-    let same = is_same(was, &head, heard);
-    let inside_was = inside_was(alloc, same, was, &head, inside)?;
-    let later_was = waiting(alloc, Box::into_inner(later))?;
+    let inside = inside_was(alloc, heard, was, &head, inside)?;
+    let later = Round::alone(alloc, Box::into_inner(later))?;
     let first = Box::new(alloc, First::Line(Box::into_inner(head)))?;
     Ok(Turn {
         first,
         heard,
-        same,
+        same: inside.1,
         places,
-        inside_was,
-        later_was,
-        inside: Vec::new(alloc),
-        later: Vec::new(alloc),
+        inside: inside.0,
+        later,
         inside_changes: Vec::new(alloc),
         later_changes: Vec::new(alloc),
     })
@@ -363,10 +334,11 @@ fn put_over(
 pub(crate) fn put_turn(
     alloc: Global,
     turn: Turn,
-    done: &mut Vec<PageMemo>,
+    round: &mut Round,
     changes: &mut Vec<Change>,
 ) -> Result<(), NoMemory>
-    ensures kept { OnOk result (map kept done.new.items ≡ map kept done.old.items ++ kept_of turn.first.value (map kept turn.inside.items) (map kept turn.later.items) ∷ []) }
+    ensures kept { OnOk result (done_of round.new ≡ done_of round.old ++ kept_of turn.first.value (done_of turn.inside) (done_of turn.later) ∷ []) }
+    ensures later { OnOk result (was_of round.new ≡ later_of (was_of round.old)) }
     ensures changed { OnOk result (map changed changes.new.items ≡ map changed changes.old.items ++ changed_of turn.first.value turn.same (map changed turn.inside_changes.items) (map changed turn.later_changes.items) ∷ []) }
 {
     let Turn {
@@ -374,8 +346,6 @@ pub(crate) fn put_turn(
         heard: _heard,
         same,
         places: _places,
-        inside_was: _inside_was,
-        later_was: _later_was,
         inside,
         later,
         inside_changes,
@@ -383,12 +353,13 @@ pub(crate) fn put_turn(
     } = turn;
     match Box::into_inner(first) {
         First::Whole(renewed) => {
-            done.push(renewed.memo)?;
+            round.put(renewed.memo)?;
             changes.push(renewed.change)?;
             Ok(())
         }
         First::Line(head) => {
-            put_closed(alloc, head, inside, later, done)?;
+            let memo = close(alloc, head, inside.finish(), later.finish())?;
+            round.put(memo)?;
             put_over(alloc, same, inside_changes, later_changes, changes)?;
             Ok(())
         }

@@ -1,5 +1,5 @@
 // Rows of before, looked for by key.
-ghost use Rattle.std.specs.Prelude.{◌≡◌, ◌<◌, ℕ, List, length, map, IfOk, IfSome, None, true};
+ghost use Rattle.std.specs.Prelude.{◌≡◌, ◌<◌, ◌+◌, ℕ, List, length, map, slice_set, IfOk, IfSome, None, false, true};
 ghost use Rattle.std.specs.Cmp.Lexicographic.{pointwise};
 ghost use Rattle.std.specs.Str.{bytes_eq};
 ghost use Rattle.sig_base.specs.Tables.{Table};
@@ -12,20 +12,18 @@ ghost use Rattle.tpl_model.specs.KeptLines.Kept.{kept};
 ghost use Rattle.tpl_model.specs.KeptLines.Memos.{table_in};
 ghost use Rattle.tpl_kept.specs.Renewals.{is_unread, SlotsWere, TakesRow};
 ghost use Rattle.tpl_kept.specs.Heads.{places_from};
-ghost use Rattle.tpl_kept.specs.Turns.{AreAmong, ServeRows};
+ghost use Rattle.tpl_model.specs.PageUpdates.PageMemos as page;
+ghost use Rattle.tpl_kept.specs.Turns.{AreAmong, KeysLeft, RowsStand, ServeRows, SlotsStay};
 
 use crate::listening::row_count;
 use indexmap::IndexMap;
 use sig_base::{NoMemory, Outcome, Row, Rows, Text, Value};
 use std::alloc::Global;
-use std::collections::VecDeque;
 use std::mem;
 use tpl_model::PageMemo;
 
 // Whether each row has the key of the row that stood at its place, as far as one stood there: then its key stood at no other place.
-fn keys_stand(was: &[Row], rows: &[Row]) -> bool
-    ensures { result ≡ true → length was.now ≡ length rows.now → map (λ (r : ARow). r.key) was.now ≡ map (λ (r : ARow). r.key) rows.now }
-{
+fn keys_stand(was: &[Row], rows: &[Row]) -> bool {
     for (place, row) in rows.iter().enumerate() {
         let Some(old) = was.get(place) else {
             return true;
@@ -36,25 +34,6 @@ fn keys_stand(was: &[Row], rows: &[Row]) -> bool
         }
     }
     true
-}
-
-// Whether rows have the keys of those that stood before them, in the same order.
-fn keep_keys(was: &[Row], rows: &[Row]) -> bool
-    ensures { result ≡ true → map (λ (r : ARow). r.key) was.now ≡ map (λ (r : ARow). r.key) rows.now }
-{
-    was.len() == rows.len() && keys_stand(was, rows)
-}
-
-/// Whether the rows that two outcomes are have the same keys, in the same order.
-pub(crate) fn same_keys(was: &Outcome, next: &Outcome) -> bool
-    ensures { result ≡ true → keys_in was.now ≡ keys_in next.now }
-{
-    match (was, next) {
-        (Outcome::Good(Value::Rows(was)), Outcome::Good(Value::Rows(rows))) => {
-            keep_keys(was.rows(), rows.rows())
-        }
-        _ => false,
-    }
 }
 
 // The places of rows by their keys; none where no row is found but at its own place.
@@ -69,16 +48,8 @@ fn places_among(alloc: Global, was: &Rows, rows: &Rows) -> Result<IndexMap<Text,
     Ok(places)
 }
 
-// So it is of the rows that an outcome was, for those that it is now; of rows that have the same keys it is known.
-fn places(
-    alloc: Global,
-    same: bool,
-    was: &Outcome,
-    next: &Outcome,
-) -> Result<IndexMap<Text, usize>, NoMemory> {
-    if same {
-        return Ok(IndexMap::new(alloc));
-    }
+// So it is of the rows that an outcome was, for those that it is now.
+fn places(alloc: Global, was: &Outcome, next: &Outcome) -> Result<IndexMap<Text, usize>, NoMemory> {
     match (was, next) {
         (Outcome::Good(Value::Rows(was)), Outcome::Good(Value::Rows(rows))) => {
             let places = places_among(alloc, was, rows)?;
@@ -169,30 +140,112 @@ fn take_row(old: &mut Vec<PageMemo>, place: Option<usize>) -> PageMemo
     mem::replace(&mut old[place], PageMemo::Unread)
 }
 
-/// What was kept for rows, each where there now is a row of the same key and values; where it is known that the rows have the same keys, in the same
-/// order, each is looked for at its own place alone.
+// What was kept for rows, each where there now is a row of the same key and values.
+fn rows_found(
+    alloc: Global,
+    was: &Outcome,
+    next: &Outcome,
+    memos: Vec<PageMemo>,
+) -> Result<Vec<PageMemo>, NoMemory>
+    ensures serve { IfOk result (λ ms. ServeRows (table_in was.now) (table_in next.now) (map kept memos.items) (map kept ms.items)) }
+    ensures among { IfOk result (λ ms. AreAmong (table_in was.now) (places_from (table_in next.now) 0 (length (table_in next.now).rows)) (map kept ms.items)) }
+{
+    let places = places(alloc, was, next)?;
+    let fields = same_fields(was, next);
+    let mut left = memos;
+    let mut taken = Vec::with_capacity(alloc, row_count(next))?;
+    for place in 0..row_count(next) {
+        let at = old_place(fields, &places, was, next, place);
+        let one = take_row(&mut left, at);
+        taken.push(one)?;
+    }
+    Ok(taken)
+}
+
+// Nothing is kept at a place.
+fn leave_row(memos: &mut Vec<PageMemo>, place: usize)
+    ensures { map kept memos.new.items ≡ slice_set (map kept memos.old.items) place page.unread }
+{
+    if place < memos.len() {
+        memos[place] = PageMemo::Unread;
+    }
+}
+
+// Whether a row has the key of the row that stood at its place: then what was kept of it stays there where it has its values still, and is left where
+// it hasn't.
+fn keep_row(fields: bool, was: &Rows, rows: &Rows, place: usize, memos: &mut Vec<PageMemo>) -> bool
+    requires fields { fields ≡ true → pointwise bytes_eq was.now.fields rows.now.fields ≡ true }
+    requires place { place < length rows.now.rows }
+    requires there { place < length was.now.rows }
+    ensures keys { result ≡ true → KeysLeft was.now.rows rows.now.rows place → KeysLeft was.now.rows rows.now.rows (place + 1) }
+    ensures other { result ≡ false → memos.new.items ≡ memos.old.items }
+    ensures stand { result ≡ true → (old : List page.PageMemo) → RowsStand was.now rows.now place old (map kept memos.old.items) → RowsStand was.now rows.now (place + 1) old (map kept memos.new.items) }
+{
+    if alike(fields, was, place, rows, place) {
+        return true;
+    }
+    let same = was.row(place).key == rows.row(place).key;
+    if !same {
+        return false;
+    }
+    leave_row(memos, place);
+    true
+}
+
+// Whether rows have the keys of those that stood before them, in the same order. What was kept of a row stays at its place where it has its values
+// still, and is left where it hasn't, as far as the keys are the same.
+fn rows_stand(fields: bool, was: &Rows, rows: &Rows, memos: &mut Vec<PageMemo>) -> bool
+    requires { fields ≡ true → pointwise bytes_eq was.now.fields rows.now.fields ≡ true }
+    ensures keys { result ≡ true → map (λ (r : ARow). r.key) was.now.rows ≡ map (λ (r : ARow). r.key) rows.now.rows }
+    ensures left { SlotsStay was.now (map kept memos.old.items) (map kept memos.new.items) }
+    ensures stand { result ≡ true → RowsStand was.now rows.now (length rows.now.rows) (map kept memos.old.items) (map kept memos.new.items) }
+{
+    if was.len() != rows.len() {
+        return false;
+    }
+    for place in 0..rows.len() {
+        if !keep_row(fields, was, rows, place, memos) {
+            return false;
+        }
+    }
+    true
+}
+
+// So it is for the rows that two outcomes are.
+fn stand(was: &Outcome, next: &Outcome, memos: &mut Vec<PageMemo>) -> bool
+    ensures keys { result ≡ true → keys_in was.now ≡ keys_in next.now }
+    ensures left { SlotsStay (table_in was.now) (map kept memos.old.items) (map kept memos.new.items) }
+    ensures stand { result ≡ true → RowsStand (table_in was.now) (table_in next.now) (length (table_in next.now).rows) (map kept memos.old.items) (map kept memos.new.items) }
+{
+    let fields = same_fields(was, next);
+    match (was, next) {
+        (Outcome::Good(Value::Rows(was)), Outcome::Good(Value::Rows(rows))) => {
+            rows_stand(fields, was, rows, memos)
+        }
+        _ => false,
+    }
+}
+
+/// What was kept for rows, each where there now is a row of the same key and values, and whether the rows are known to have the same keys, in the same
+/// order: then what was kept stays where it is.
 ///
 /// # Errors
 ///
 /// `NoMemory` alone.
 pub(crate) fn rows_were(
     alloc: Global,
-    same: bool,
     was: &Outcome,
     next: &Outcome,
     memos: Vec<PageMemo>,
-) -> Result<VecDeque<PageMemo>, NoMemory>
-    ensures serve { IfOk result (λ q. ServeRows (table_in was.now) (table_in next.now) (map kept memos.items) (map kept q.items)) }
-    ensures among { IfOk result (λ q. AreAmong (table_in was.now) (places_from (table_in next.now) 0 (length (table_in next.now).rows)) (map kept q.items)) }
+) -> Result<(Vec<PageMemo>, bool), NoMemory>
+    ensures serve { IfOk result (λ r. ServeRows (table_in was.now) (table_in next.now) (map kept memos.items) (map kept r.0.items)) }
+    ensures among { IfOk result (λ r. AreAmong (table_in was.now) (places_from (table_in next.now) 0 (length (table_in next.now).rows)) (map kept r.0.items)) }
+    ensures keys { IfOk result (λ r. r.1 ≡ true → keys_in was.now ≡ keys_in next.now) }
 {
-    let places = places(alloc, same, was, next)?;
-    let fields = same_fields(was, next);
     let mut left = memos;
-    let mut taken = Vec::new(alloc);
-    for place in 0..row_count(next) {
-        let at = old_place(fields, &places, was, next, place);
-        let one = take_row(&mut left, at);
-        taken.push(one)?;
+    if stand(was, next, &mut left) {
+        return Ok((left, true));
     }
-    Ok(VecDeque::from_vec(taken))
+    let found = rows_found(alloc, was, next, left)?;
+    Ok((found, false))
 }

@@ -1,16 +1,18 @@
 // Lines that stay, though nothing is heard, since they read no name.
-ghost use Rattle.std.specs.Prelude.{◌≡◌, ◌++◌, ◌∷◌, [], map, true, IfOk, OnOk};
+ghost use Rattle.std.specs.Prelude.{◌≡◌, ◌<◌, ◌++◌, ◌∷◌, [], false, length, map, true, IfOk, OnOk};
 ghost use Rattle.tpl_model.specs.KeptLines.Changes.{changed, stays};
 ghost use Rattle.tpl_model.specs.KeptLines.Kept.{heard_of, kept};
 ghost use Rattle.tpl_model.specs.PageUpdates.PageMemos.{all_names};
-ghost use Rattle.tpl_kept.specs.Nameless.{KeepsFront, ReadsNone};
+ghost use Rattle.tpl_kept.specs.Nameless.{AreNameless, KeepsFront, ReadsNone};
+ghost use Rattle.tpl_kept.specs.Renewals.{is_unread};
+ghost use Rattle.tpl_kept.specs.Rounds.{done_of, was_of};
 ghost use Rattle.tpl_kept.specs.Turns.{first_of, later_of};
 
 use crate::renewing::looking::{Look, hears_first};
-use crate::renewing::parts::next_kept;
+use crate::renewing::parts::unread;
+use crate::renewing::round::Round;
 use sig_base::{NoMemory, NodeId};
 use sig_formula::RowRef;
-use std::collections::VecDeque;
 use tpl_model::{Change, Heard, PageMemo};
 
 // Whether there is no name.
@@ -49,57 +51,68 @@ fn reads_none(memo: &PageMemo) -> bool
     }
 }
 
-// Whether what was kept first stays without a look at it: it read no name, and lines before it haven't changed.
-fn first_stays(look: Look, was: &VecDeque<PageMemo>) -> bool
-    ensures { result ≡ true → ReadsNone (first_of (map kept was.now.items)) }
+// Whether something is kept that read no name; of some lines it is known that they read none.
+fn is_quiet(silent: bool, memo: &PageMemo) -> bool
+    requires { silent ≡ true → is_unread (kept memo.now) ≡ false → ReadsNone (kept memo.now) }
+    ensures { result ≡ true → ReadsNone (kept memo.now) }
+{
+    if silent {
+        return !unread(memo);
+    }
+    reads_none(memo)
+}
+
+// Whether what was kept in the next row stays without a look at it: it read no name, and lines before it haven't changed.
+fn first_stays(look: Look, silent: bool, round: &Round) -> bool
+    requires { silent ≡ true → is_unread (first_of (was_of round.now)) ≡ false → ReadsNone (first_of (was_of round.now)) }
+    ensures inside { result ≡ true → round.now.at < length round.now.memos.items }
+    ensures none { result ≡ true → ReadsNone (first_of (was_of round.now)) }
 {
     if !hears_first(look) {
         return false;
     }
-    let Some(memo) = was.front() else {
+    let Some(memo) = round.front() else {
         return false;
     };
-    reads_none(memo)
+    is_quiet(silent, memo)
 }
 
-// Puts what was kept first behind what is kept, where it stays.
-fn keep_first(
-    was: &mut VecDeque<PageMemo>,
-    done: &mut Vec<PageMemo>,
-    changes: &mut Vec<Change>,
-) -> Result<(), NoMemory>
-    ensures left { OnOk result (map kept was.new.items ≡ later_of (map kept was.old.items)) }
-    ensures kept { OnOk result (map kept done.new.items ≡ map kept done.old.items ++ first_of (map kept was.old.items) ∷ []) }
+// What was kept in the next row stays.
+fn keep_first(round: &mut Round, changes: &mut Vec<Change>) -> Result<(), NoMemory>
+    requires { round.old.at < length round.old.memos.items }
+    ensures left { OnOk result (was_of round.new ≡ later_of (was_of round.old)) }
+    ensures kept { OnOk result (done_of round.new ≡ done_of round.old ++ first_of (was_of round.old) ∷ []) }
     ensures changed { OnOk result (map changed changes.new.items ≡ map changed changes.old.items ++ stays ∷ []) }
 {
-    let memo = next_kept(was);
-    done.push(memo)?;
     changes.push(Change::stays())?;
+    round.keep();
     Ok(())
 }
 
-/// Puts what was kept in the first of some rows behind what is kept, as far as it stays without a look at it, and gives the rows that are left.
+/// What was kept in the first of some rows stays, as far as it does without a look at it; gives the rows that are left. Of some lines it is known that
+/// they read no name.
 ///
 /// # Errors
 ///
 /// `NoMemory` alone.
 pub(crate) fn keep_front<'a>(
     look: Look,
+    silent: bool,
     rows: &'a [Option<RowRef>],
-    was: &mut VecDeque<PageMemo>,
-    done: &mut Vec<PageMemo>,
+    round: &mut Round,
     changes: &mut Vec<Change>,
 ) -> Result<&'a [Option<RowRef>], NoMemory>
-    ensures { IfOk result (λ left. KeepsFront rows.now (map kept was.old.items) (map kept done.old.items) (map changed changes.old.items)
-        left.now (map kept was.new.items) (map kept done.new.items) (map changed changes.new.items)) }
+    requires { silent ≡ true → AreNameless rows.now (was_of round.old) }
+    ensures { IfOk result (λ left. KeepsFront rows.now (was_of round.old) (done_of round.old) (map changed changes.old.items)
+        left.now (was_of round.new) (done_of round.new) (map changed changes.new.items)) }
 {
     let Some((_, others)) = rows.split_first() else {
         return Ok(rows);
     };
-    if !first_stays(look, was) {
+    if !first_stays(look, silent, round) {
         return Ok(rows);
     }
-    keep_first(was, done, changes)?;
-    let left = keep_front(look, others, was, done, changes)?;
+    keep_first(round, changes)?;
+    let left = keep_front(look, silent, others, round, changes)?;
     Ok(left)
 }

@@ -11,6 +11,7 @@ ghost use Rattle.tpl_kept.specs.Renewals.{AreLooked, WasMadeIfRead};
 ghost use Rattle.tpl_kept.specs.Heads.{AreRows, IsRow, IsTried, MakesEach, Opens};
 ghost use Rattle.tpl_model.specs.KeptLines.Changes.{changed, Tells};
 ghost use Rattle.tpl_kept.specs.Changes.{BeginsTold, TellsEach};
+ghost use Rattle.tpl_kept.specs.Rounds.{done_of, was_of};
 ghost use Rattle.tpl_kept.specs.Turns.{places_of, Begins, IsWasTried, WasOpened, WasTried, WereEach};
 
 use crate::listening::{listen_again, listen_all_again};
@@ -18,9 +19,11 @@ use crate::making::{Head, hear_attempt, inner_of, last, lent_row, make, own_row,
 use crate::renewing::looking::{Look, hears_first, look_behind, look_inside};
 use crate::renewing::names::put_names;
 use crate::renewing::parts::{
-    Parts, Renewed, Turn, apart, behind_of, last_change, next_kept, outcome_of, put_turn, shows_of,
-    taken_up, unread, waiting, whole,
+    Parts, Renewed, Turn, apart, behind_of, last_change, outcome_of, put_turn, shows_of, taken_up,
+    unread, whole,
 };
+use crate::renewing::round::Round;
+use crate::renewing::silent::reads_nothing;
 use crate::renewing::staying::keep_front;
 use sig_base::{NoMemory, NodeId};
 use sig_computed::RunNote;
@@ -28,7 +31,6 @@ use sig_formula::RowRef;
 use sig_host::{Lent, Shelf};
 use sig_nodes::Graph;
 use std::alloc::Global;
-use std::collections::VecDeque;
 use std::slice;
 use tpl_blocks::Block;
 use tpl_hearing::{Outcomes, Rehearing, hear_again};
@@ -229,13 +231,13 @@ fn begin(
     requires counted { ⟦<Shelf as Lent>⟧.counted shelf.old }
     requires compared { AreCompared before.now hearing.old }
     requires was { WasMadeIfRead (lines_memo (block lines.now)) links.now row.now before.now (kept memo.value) }
-    ensures begins { IfOk result (λ t. Begins (block lines.now) links.now row.now before.now hearing.old.heard hearing.new.heard t.first.value (map kept t.inside_was.items) (map kept t.later_was.items)) }
+    ensures begins { IfOk result (λ t. Begins (block lines.now) links.now row.now before.now hearing.old.heard hearing.new.heard t.first.value (was_of t.inside) (was_of t.later)) }
     ensures places { IfOk result (λ t. t.places.items ≡ places_of t.first.value row.now) }
-    ensures inside { IfOk result (λ t. t.inside.items ≡ []) }
-    ensures later { IfOk result (λ t. t.later.items ≡ []) }
+    ensures inside { IfOk result (λ t. done_of t.inside ≡ []) }
+    ensures later { IfOk result (λ t. done_of t.later ≡ []) }
     ensures inside_changes { IfOk result (λ t. t.inside_changes.items ≡ []) }
     ensures later_changes { IfOk result (λ t. t.later_changes.items ≡ []) }
-    ensures told { IfOk result (λ t. BeginsTold (block lines.now) links.now row.now before.now (kept memo.value) t.first.value t.same (map kept t.inside_was.items)) }
+    ensures told { IfOk result (λ t. BeginsTold (block lines.now) links.now row.now before.now (kept memo.value) t.first.value t.same (was_of t.inside)) }
     ensures after { OnOk result (Hears
         (scene graph.old (⟦<Shelf as Lent>⟧.asked shelf.old) notes.old.items) (scene graph.new (⟦<Shelf as Lent>⟧.asked shelf.new) notes.new.items)
         (λ hosts. ⟦<Shelf as Lent>⟧.answers hosts shelf.old) (λ hosts. ⟦<Shelf as Lent>⟧.answers hosts shelf.new) hearing.old.heard hearing.new.heard) }
@@ -270,9 +272,9 @@ fn begin(
     Ok(turn)
 }
 
-// Puts what is kept of lines in each of some rows behind what was kept, brought up to date, and what became of it behind what became of that. What
-// is kept now and what became of what was kept are told apart, as only the second looks at what was; the other clauses are what each hearing asks
-// for and gives back, and that the rows and what was kept in them belong together.
+// Brings what is kept of lines in each of some rows up to date, and puts what became of it behind what became of others. What is kept now and what
+// became of what was kept are told apart, as only the second looks at what was; the other clauses are what each hearing asks for and gives back, and
+// that the rows and what was kept in them belong together.
 fn renew_each(
     alloc: Global,
     graph: &mut Graph,
@@ -282,10 +284,9 @@ fn renew_each(
     lines: &Block,
     links: &[NodeId],
     rows: &[Option<RowRef>],
-    was: &mut VecDeque<PageMemo>,
+    round: &mut Round,
     look: Look,
     notes: &mut Vec<RunNote>,
-    done: &mut Vec<PageMemo>,
     changes: &mut Vec<Change>,
 ) -> Result<(), NoMemory>
     requires few { length rows.now < 2 ^ 64 }
@@ -293,9 +294,9 @@ fn renew_each(
     requires can { CanSettle (scene graph.old (⟦<Shelf as Lent>⟧.asked shelf.old) notes.old.items) }
     requires counted { ⟦<Shelf as Lent>⟧.counted shelf.old }
     requires compared { AreCompared before.now hearing.old }
-    requires was { WereEach (block lines.now) links.now rows.now before.now (map kept was.old.items) }
-    ensures made { OnOk result (MakesEach false (block lines.now) links.now rows.now hearing.old.heard hearing.new.heard (map kept done.old.items) (map kept done.new.items)) }
-    ensures told { OnOk result (TellsEach (block lines.now) links.now rows.now before.now (map kept was.old.items) (map kept done.old.items) (map kept done.new.items) (map changed changes.old.items) (map changed changes.new.items)) }
+    requires was { WereEach (block lines.now) links.now rows.now before.now (was_of round.old) }
+    ensures made { OnOk result (MakesEach false (block lines.now) links.now rows.now hearing.old.heard hearing.new.heard (done_of round.old) (done_of round.new)) }
+    ensures told { OnOk result (TellsEach (block lines.now) links.now rows.now before.now (was_of round.old) (done_of round.old) (done_of round.new) (map changed changes.old.items) (map changed changes.new.items)) }
     ensures after { OnOk result (Hears
         (scene graph.old (⟦<Shelf as Lent>⟧.asked shelf.old) notes.old.items) (scene graph.new (⟦<Shelf as Lent>⟧.asked shelf.new) notes.new.items)
         (λ hosts. ⟦<Shelf as Lent>⟧.answers hosts shelf.old) (λ hosts. ⟦<Shelf as Lent>⟧.answers hosts shelf.new) hearing.old.heard hearing.new.heard) }
@@ -303,11 +304,12 @@ fn renew_each(
     ensures counted { OnOk result (⟦<Shelf as Lent>⟧.counted shelf.new) }
     ensures compared { OnOk result (AreCompared before.now hearing.new) }
 {
-    let rows = keep_front(look, rows, was, done, changes)?;
+    let silent = reads_nothing(rows, lines);
+    let rows = keep_front(look, silent, rows, round, changes)?;
     let Some((row, others)) = rows.split_first() else {
         return Ok(());
     };
-    let memo = next_kept(was);
+    let memo = round.take();
     let memo = Box::new(alloc, memo)?;
     let mut turn = begin(
         alloc, graph, shelf, before, hearing, lines, memo, look, links, row, notes,
@@ -315,26 +317,22 @@ fn renew_each(
     let inner = inner_of(lines, shows_of(&turn.first));
     let within = look_inside(look, &turn);
     let places = &turn.places;
-    let inside_was = &mut turn.inside_was;
     let inside = &mut turn.inside;
     let told = &mut turn.inside_changes;
     renew_each(
-        alloc, graph, shelf, before, hearing, inner, links, places, inside_was, within, notes,
-        inside, told,
+        alloc, graph, shelf, before, hearing, inner, links, places, inside, within, notes, told,
     )?;
     let rest = rest_of(lines);
     let behind = behind_of(&turn.first, row);
     let after = look_behind(look, &turn);
-    let later_was = &mut turn.later_was;
     let later = &mut turn.later;
     let told = &mut turn.later_changes;
     renew_each(
-        alloc, graph, shelf, before, hearing, rest, links, behind, later_was, after, notes, later,
-        told,
+        alloc, graph, shelf, before, hearing, rest, links, behind, later, after, notes, told,
     )?;
-    put_turn(alloc, turn, done, changes)?;
+    put_turn(alloc, turn, round, changes)?;
     renew_each(
-        alloc, graph, shelf, before, hearing, lines, links, others, was, look, notes, done, changes,
+        alloc, graph, shelf, before, hearing, lines, links, others, round, look, notes, changes,
     )?;
     Ok(())
 }
@@ -376,9 +374,8 @@ pub fn renew(
     ensures counted { OnOk result (⟦<Shelf as Lent>⟧.counted shelf.new) }
     ensures compared { OnOk result (AreCompared before.now hearing.new) }
 {
-    let mut was = waiting(alloc, memo)?;
+    let mut round = Round::alone(alloc, memo)?;
     let own = own_row(row)?;
-    let mut done = Vec::new(alloc);
     let mut changes = Vec::new(alloc);
     renew_each(
         alloc,
@@ -389,14 +386,13 @@ pub fn renew(
         lines,
         links,
         slice::from_ref(&own),
-        &mut was,
+        &mut round,
         Look::Changed,
         notes,
-        &mut done,
         &mut changes,
     )?;
     Ok(Renewed {
-        memo: last(done),
+        memo: last(round.finish()),
         change: last_change(changes),
     })
 }

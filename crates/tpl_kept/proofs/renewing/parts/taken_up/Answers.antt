@@ -10,10 +10,10 @@ pub returns-clause-places : goal.returns-clause-places
 returns-clause-places c = rw c.deref.ensures at c.in_ok-places.ensures
 
 pub returns-clause-inside_was : goal.returns-clause-inside_was
-returns-clause-inside_was c = rw c.deref-3.ensures at c.in_ok-inside_was.ensures
+returns-clause-inside_was c = rw c.deref-2.ensures at c.in_ok-inside.ensures.serve
 
 pub returns-clause-later_was : goal.returns-clause-later_was
-returns-clause-later_was c = c.in_ok-later_was.ensures ∙ ap (λ z. kept z ∷ []) c.into_inner.ensures
+returns-clause-later_was c = c.in_ok-later.ensures.was ∙ ap (λ z. kept z ∷ []) c.into_inner.ensures
 
 pub returns-clause-same : goal.returns-clause-same
-returns-clause-same c = rw c.deref-2.ensures at c.is_same-same.ensures
+returns-clause-same c = rw c.deref-2.ensures at c.in_ok-inside.ensures.same

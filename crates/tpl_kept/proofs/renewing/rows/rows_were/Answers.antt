@@ -1,23 +1,10 @@
-use Rattle.std.proofs.Common.{map}
-use Rattle.tpl_model.specs.KeptLines.Kept.{kept}
-use Rattle.tpl_model.specs.KeptLines.Memos.{table_in}
-use Rattle.tpl_kept.proofs.Listened.Sequences.{mapped_put}
-use Rattle.tpl_kept.proofs.Renewals.RowMemos.{one_count, row_among, row_serves}
 use Rattle.tpl_kept.proofs.renewing.rows.rows_were.Goals as goal
 
-pub loop-place-preserved : goal.loop-place-preserved
-loop-place-preserved c =
-    let v = c.loop-place.invariant in
-    let put = c.in_ok-push.ensures.items in
-    record {
-      count = one_count kept c.loop-place.taken.items c.push.new.self.items c.take_row-one.result c.loop-place.place put v.count;
-      left = λ b links before s. (c.take_row-one.ensures.takes b links (table_in c.args.was.now) before (v.left b links before s)).left;
-      taken = λ b links before s.
-          row_serves b links (table_in c.args.was.now) (table_in c.args.next.now) before c.old_place-at.result c.loop-place.place (kept c.take_row-one.result)
-          (map kept c.take_row-one.new.old.items) (map kept c.loop-place.taken.items) (map kept c.push.new.self.items) c.old_place-at.ensures.inside
-          c.old_place-at.ensures.same (c.take_row-one.ensures.takes b links (table_in c.args.was.now) before (v.left b links before s)) v.count
-          (mapped_put kept c.loop-place.taken.items c.push.new.self.items c.take_row-one.result put) (v.taken b links before s);
-      among = row_among (table_in c.args.was.now) (table_in c.args.next.now) c.old_place-at.result c.loop-place.place (kept c.take_row-one.result)
-          (map kept c.loop-place.taken.items) (map kept c.push.new.self.items) c.old_place-at.ensures.inside c.old_place-at.ensures.same
-          c.take_row-one.ensures.nothing v.count (mapped_put kept c.loop-place.taken.items c.push.new.self.items c.take_row-one.result put) v.among;
-    }
+pub returns-then-stand-clause-serve : goal.returns-then-stand-clause-serve
+returns-then-stand-clause-serve c = (c.stand.ensures.stand c.if-stand.true).serve
+
+pub returns-then-stand-clause-among : goal.returns-then-stand-clause-among
+returns-then-stand-clause-among c = (c.stand.ensures.stand c.if-stand.true).among
+
+pub returns-clause-serve : goal.returns-clause-serve
+returns-clause-serve c = λ b links before s. c.in_ok-found.ensures.serve b links before (c.stand.ensures.left b links before s)

@@ -10,6 +10,7 @@ use Rattle.tpl_kept.specs.Renewals.{AreLooked, is_unread}
 use Rattle.tpl_kept.proofs.Listened.Reuse.{stayed}
 use Rattle.tpl_kept.specs.Heads.{Opens}
 use Rattle.tpl_kept.specs.Changes.{IsTold}
+use Rattle.tpl_kept.specs.Rounds.{was_of}
 use Rattle.tpl_kept.specs.Turns.{IsSame, ServeInside, WasOpened, outcome_of}
 use Rattle.tpl_kept.proofs.Renewals.Apart.{was_apart}
 use Rattle.tpl_model.specs.KeptLines.Changes.{changed}
@@ -20,7 +21,7 @@ use Rattle.tpl_kept.proofs.renewing.update.begin.Goals as goal
 pub returns-then-unread-clause-begins : goal.returns-then-unread-clause-begins
 returns-then-unread-clause-begins g c =
     begins_whole (block c.args.lines.now) c.args.links.now c.args.row.now (option_copied c.lent_row-here.result) c.args.before.now c.args.hearing.now.heard
-    c.make.new.heard (box_value c.in_ok-all.all.first) c.in_ok-memo.memo c.made.result (map kept c.in_ok-all.all.inside_was.items) (map kept c.in_ok-all.all.later_was.items)
+    c.make.new.heard (box_value c.in_ok-all.all.first) c.in_ok-memo.memo c.made.result (was_of c.in_ok-all.all.inside) (was_of c.in_ok-all.all.later)
     c.in_ok-all.ensures.first c.lent_row-here.ensures.is c.in_ok-memo.ensures.made
 
 pub returns-then-unread-clause-places : goal.returns-then-unread-clause-places
@@ -34,8 +35,8 @@ returns-then-branch-clause-begins g c =
     let u : is_unread m ≡ false = ap (λ z. is_unread (kept z)) (sym c.deref.ensures) ∙ (sym c.unread.ensures ∙ c.if-unread.false) in
     let same = subst (λ z. AreLooked z c.args.before.now (names m) c.args.hearing.now.heard c.stays.new.hearing.heard) c.if-branch.true (rw c.deref-2.ensures at c.in_ok-stays.ensures.looked) in
     begins_whole b c.args.links.now c.args.row.now c.args.row.now c.args.before.now c.args.hearing.now.heard c.stays.new.hearing.heard
-    (box_value c.in_ok-all-2.all.first) c.into_inner.result c.stays-then-branch.result (map kept c.in_ok-all-2.all.inside_was.items)
-    (map kept c.in_ok-all-2.all.later_was.items) c.in_ok-all-2.ensures.first refl
+    (box_value c.in_ok-all-2.all.first) c.into_inner.result c.stays-then-branch.result (was_of c.in_ok-all-2.all.inside)
+    (was_of c.in_ok-all-2.all.later) c.in_ok-all-2.ensures.first refl
     (subst (λ z. Makes (lines_memo b) c.args.links.now c.args.row.now c.args.hearing.now.heard c.stays.new.hearing.heard (kept z)) (sym c.into_inner.ensures)
     (stayed b c.args.links.now c.args.row.now c.args.before.now c.args.hearing.now.heard c.stays.new.hearing.heard m (c.requires.was.made u) same))
 
@@ -67,8 +68,8 @@ returns-clause-begins g c =
     let r = kept (box_value c.in_ok-head.field-0.later) in
     let turn = c.in_ok-turn.turn in
     let t = c.in_ok-turn.ensures in
-    let ins = map kept turn.inside_was.items in
-    let lat = map kept turn.later_was.items in
+    let ins = was_of turn.inside in
+    let lat = was_of turn.later in
     let serves = subst (λ z. ServeInside z h is ins) (c.deref-4.ensures ∙ (c.in_ok-was-2.ensures.ok ∙ (c.in_ok-was.ensures ∙ ap outcome_of c.deref-3.ensures))) t.inside_was in
     begins_line b c.args.links.now c.args.row.now c.args.before.now c.args.hearing.now.heard c.hear_first_again.new.hearing.heard (box_value turn.first) h ins lat t.first
     (opened_again b c.args.links.now c.args.row.now c.args.before.now c.args.hearing.now.heard c.stays.new.hearing.heard c.hear_first_again.new.hearing.heard m old h is r
@@ -91,7 +92,7 @@ pub returns-then-unread-clause-told : goal.returns-then-unread-clause-told
 returns-then-unread-clause-told g c =
     let b = block c.args.lines.now in
     whole_told b c.args.links.now c.args.row.now c.args.before.now (kept (box_value c.args.memo)) (box_value c.in_ok-all.all.first) c.in_ok-all.all.same c.in_ok-memo.memo
-    c.made.result (map kept c.in_ok-all.all.inside_was.items) c.in_ok-all.ensures.first
+    c.made.result (was_of c.in_ok-all.all.inside) c.in_ok-all.ensures.first
     (made_told b c.args.links.now c.args.row.now c.args.before.now (kept (box_value c.args.memo)) (kept c.in_ok-memo.memo) (changed c.made.result) c.made.ensures)
 
 pub returns-then-branch-clause-told : goal.returns-then-branch-clause-told
@@ -100,7 +101,7 @@ returns-then-branch-clause-told g c =
     let m = kept (box_value c.args.memo) in
     let u : is_unread m ≡ false = ap (λ z. is_unread (kept z)) (sym c.deref.ensures) ∙ (sym c.unread.ensures ∙ c.if-unread.false) in
     whole_told b c.args.links.now c.args.row.now c.args.before.now m (box_value c.in_ok-all-2.all.first) c.in_ok-all-2.all.same
-    c.into_inner.result c.stays-then-branch.result (map kept c.in_ok-all-2.all.inside_was.items) c.in_ok-all-2.ensures.first
+    c.into_inner.result c.stays-then-branch.result (was_of c.in_ok-all-2.all.inside) c.in_ok-all-2.ensures.first
     (subst (λ z. IsTold b c.args.links.now c.args.row.now c.args.before.now m (kept z) (changed c.stays-then-branch.result)) (sym c.into_inner.ensures)
     (stays_told b c.args.links.now c.args.row.now c.args.before.now m (changed c.stays-then-branch.result) c.stays-then-branch.ensures u
     (c.requires.was.made u)))
@@ -117,7 +118,7 @@ returns-clause-told g c =
     let is = map kept c.in_ok-head.field-0.inside.items in
     let turn = c.in_ok-turn.turn in
     let t = c.in_ok-turn.ensures in
-    let ins = map kept turn.inside_was.items in
+    let ins = was_of turn.inside in
     let w = was_apart b c.args.links.now c.args.row.now c.args.before.now m old is (kept (box_value c.in_ok-head.field-0.later)) (c.requires.was.made u)
     (c.in_ok-head.ensures u) in
     let came = c.deref-4.ensures ∙ (c.in_ok-was-2.ensures.ok ∙ (c.in_ok-was.ensures ∙ ap outcome_of c.deref-3.ensures)) in

@@ -6,7 +6,7 @@ use Rattle.tpl_model.specs.KeptLines.Memos.{table_in}
 use Rattle.tpl_kept.specs.Renewals.{SlotsWere}
 use Rattle.tpl_kept.specs.Heads.{places_from}
 use Rattle.tpl_kept.specs.Turns.{AreAmong, WereEach}
-use Rattle.tpl_kept.proofs.renewing.rows.rows_were.Given as goal
+use Rattle.tpl_kept.proofs.renewing.rows.rows_found.Given as goal
 
 -- what is left of before, and what was taken for the rows so far
 abbrev pub invariant-loop-place : goal.invariant-loop-place
