@@ -14,16 +14,25 @@ use page_tree::Tree;
 use sig_base::NoMemory;
 use std::alloc::Global;
 
-// Appends those of some numbers that aren't in a set.
-fn put_others(set: &NumberSet, numbers: &[u64], out: &mut Vec<u64>) -> Result<(), NoMemory>
+// Appends those of some numbers that aren't in a set. They mostly stand in the set's order, so each is looked for at a place of the set first; what is told
+// is the place where a next one is looked for.
+fn put_others(
+    set: &NumberSet,
+    numbers: &[u64],
+    near: usize,
+    out: &mut Vec<u64>,
+) -> Result<usize, NoMemory>
     ensures { OnOk result (out.new.items ≡ out.old.items ++ those (λ n. not (tells set.now n)) numbers.now) }
 {
+    let mut place = near;
     for number in numbers {
-        if !set.has(*number) {
+        if set.has_at(place, *number) {
+            place = place.wrapping_add(1);
+        } else if !set.has(*number) {
             out.push(*number)?;
         }
     }
-    Ok(())
+    Ok(place)
 }
 
 // The children of nodes that aren't in a set, those of one node after those of another.
@@ -36,8 +45,9 @@ fn gone_children(
     ensures { IfOk result (λ gone. gone.items ≡ flat_map (gone_numbers (tells kept.now) tree.now) numbers.now) }
 {
     let mut gone = Vec::new(alloc);
+    let mut near = 0;
     for number in numbers {
-        put_others(kept, tree.children(*number), &mut gone)?;
+        near = put_others(kept, tree.children(*number), near, &mut gone)?;
     }
     Ok(gone)
 }

@@ -12,7 +12,7 @@ ghost use Rattle.tpl_patch.specs.Spelled.{spelled};
 ghost use Rattle.tpl_model.specs.ShownNodes.Shapes.{child_of, mark_of};
 
 use crate::arrivals::{Row, row_of};
-use keyed_each::{RowStep, place};
+use keyed_each::{RowStep, place_numbers};
 use page_ops::Op;
 use page_tree::{Sub, Tree};
 use sig_base::NoMemory;
@@ -117,7 +117,7 @@ fn put_children(
 {
     let row = row_of(alloc, next, children)?;
     let Row { numbers, coming } = row;
-    let steps = place(alloc, tree.children(parent), &numbers)?;
+    let steps = place_numbers(alloc, tree.children(parent), &numbers, next)?;
     let Nodes { subs, next } = coming;
     put_steps(parent, &numbers, &steps, subs, ops)?;
     Ok(next)

@@ -1,5 +1,5 @@
 // Sets of numbers.
-ghost use Rattle.std.specs.Prelude.{◌≡◌, ℕ, IfOk};
+ghost use Rattle.std.specs.Prelude.{◌≡◌, ℕ, IfOk, true};
 ghost use Rattle.page_model.specs.Edits.{listed};
 ghost use Rattle.tpl_patch.specs.Sets.{tells};
 
@@ -32,6 +32,17 @@ impl NumberSet {
             held.insert(*number)?;
         }
         Ok(NumberSet { numbers: held })
+    }
+
+    /// Whether a number stands at a place of it, in the order in which they came.
+    #[tactic(auto, using(crate::proofs::Numbers::one_there))]
+    pub fn has_at(&self, place: usize, number: u64) -> bool
+        ensures { result ≡ true → tells self.now number ≡ true }
+    {
+        match self.numbers.get_index(place) {
+            Some(held) => *held == number,
+            None => false,
+        }
     }
 
     /// Whether it has a number.

@@ -14,4 +14,4 @@ loop-number-preserved c =
     let f : ℕ → List ℕ = gone_numbers (tells c.args.kept.now) c.args.tree.now in
     let rest : drop i xs ≡ get_or xs i 0 ∷ drop (i + 1) xs = drop_more xs i 0 c.loop-number-test.true in
     one_more f (get_or xs i 0) (drop i xs) (drop (i + 1) xs) (flat_map f xs) c.loop-number.gone.items c.put_others.new.out.items rest
-    (c.in_ok-put_others.ensures ∙ ap (λ z. c.loop-number.gone.items ++ those (λ n. not (tells c.args.kept.now n)) z) c.children.ensures) c.loop-number.invariant
+    (c.in_ok-near.ensures ∙ ap (λ z. c.loop-number.gone.items ++ those (λ n. not (tells c.args.kept.now n)) z) c.children.ensures) c.loop-number.invariant
