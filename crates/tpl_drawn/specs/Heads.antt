@@ -1,5 +1,6 @@
 -- What is shown of the first of some lines.
 use Rattle.std.specs.Prelude.{ℕ, List, []}
+use Rattle.sig_base.specs.Tables.{Table}
 use Rattle.sig_base.specs.declared.rows.Row.{Row}
 use Rattle.sig_base.specs.declared.value.Value.TheVariants as value
 use Rattle.sig_base.specs.declared.value.Outcome.{Outcome}
@@ -7,7 +8,7 @@ use Rattle.sig_base.specs.declared.value.Outcome.TheVariants.{Good}
 use Rattle.page_model.specs.Forest.{Forest, none, node}
 use Rattle.page_model.specs.Labels.{Look, Text}
 use Rattle.tpl_model.specs.Shapes.{node_text}
-use Rattle.tpl_model.specs.PageUpdates.PageMemos.{PageMemo, line}
+use Rattle.tpl_model.specs.PageUpdates.PageMemos.{PageMemo, line, loop}
 
 -- a text of this address
 abbrev pub text_at : ℕ → PageMemo → Forest Look
@@ -18,3 +19,13 @@ text_at a m = none
 abbrev pub rows_in : Outcome → List Row
 rows_in (Good (value.Rows t)) = t.rows
 rows_in _ = []
+
+-- the table that an outcome is, or one without rows
+abbrev pub table_in : Outcome → Table
+table_in (Good (value.Rows t)) = t
+table_in _ = record { fields = []; rows = [] }
+
+-- that of a loop
+abbrev pub table_of : PageMemo → Table
+table_of (loop h i r) = table_in h.outcome
+table_of _ = record { fields = []; rows = [] }

@@ -1,14 +1,17 @@
 -- What comes of going over lines by what became of what is kept of them.
 use Rattle.std.specs.Prelude.{ℕ, Bool, true, false, List, [], ◌++◌, map, Option, Some, None, if◌then◌else◌}
 use Rattle.page_model.specs.Forest.{Forest, none, node}
-use Rattle.page_model.specs.Labels.{Root, Look}
-use Rattle.tpl_model.specs.Lines.{Block}
+use Rattle.page_model.specs.Addresses.{address}
+use Rattle.page_model.specs.Labels.{Root, Look, Element}
+use Rattle.tpl_model.specs.Lines.{Block, empty, text, tag, choice, each, attempt}
 use Rattle.tpl_model.specs.Shapes.{Here}
 use Rattle.tpl_model.specs.ShownNodes.Shapes.{Marked, Next, child_of, mark_of}
 use Rattle.tpl_model.specs.declared.mark.Child.{Child}
 use Rattle.tpl_drawn.specs.Marks.{children_in, marks_in}
 use Rattle.tpl_model.specs.KeptLines.Changes.{Change, changed, first_in, stays}
-use Rattle.tpl_model.specs.PageUpdates.PageMemos.{PageMemo, nodes, row_nodes}
+use Rattle.tpl_model.specs.PageUpdates.PageMemos.{PageMemo, nodes, row_nodes, values}
+use Rattle.tpl_drawn.specs.Heads.{text_at}
+use Rattle.tpl_drawn.specs.Shown.{attributes_of, inside_of, rows_of, shows}
 use Rattle.tpl_drawn.specs.Comparison.{Marking, keeps_nodes, marked_by, restated_part, restating, row_marks, touched_part, touching, tried_marks}
 use Rattle.tpl_model.specs.declared.change.Change as code
 use Rattle.tpl_drawn.specs.declared.comparing.node_marks.Compared.{Compared}
@@ -114,3 +117,17 @@ of_rows known inner i inside = record {
   touched = row_marks (λ (here : Here) (m : PageMemo) (d : Change). marked_by touching touched_part known (Some here.key) inner m d) i inside;
   restated = row_marks (λ (here : Here) (m : PageMemo) (d : Change). marked_by restating restated_part known (Some here.key) inner m d) i inside;
 }
+
+-- of the first of some lines, which was heard again
+abbrev pub of_first : (ℕ → Option ℕ) → Option (List ℕ) → (same : Bool) → Block → PageMemo → Change → Walk
+of_first known k same (text n f rest) m inside = of_text known same (text_at (address n k) m)
+of_first known k same (tag n name xs inner rest) m inside =
+    of_element known k same (address n k) (Element name (values xs (attributes_of m))) inner (inside_of m) inside
+of_first known k same (choice f one other rest) m inside =
+    further (where_gone (shows m true) (of_lines known k one (inside_of m) (first_in inside)))
+    (where_gone (shows m false) (of_lines known k other (inside_of m) (first_in inside)))
+of_first known k same (each f inner rest) m inside = of_rows known inner (rows_of m) inside
+of_first known k same (attempt first second rest) m inside =
+    further (where_gone (shows m true) (of_tried known same (nodes k first (inside_of m))))
+    (where_gone (shows m false) (of_tried known same (nodes k second (inside_of m))))
+of_first known k same empty m inside = idle

@@ -7,30 +7,20 @@ use denote.Ref.{Bor}
 use Rattle.std.specs.Option.{option_copied}
 use Rattle.sig_base.specs.Tables.{Table}
 use Rattle.sig_base.specs.declared.rows.Row.{Row}
-use Rattle.sig_base.specs.declared.value.Value.TheVariants as value
-use Rattle.sig_base.specs.declared.value.Outcome.{Outcome}
-use Rattle.sig_base.specs.declared.value.Outcome.TheVariants.{Good, Bad}
-use Rattle.page_model.specs.Forest.{Forest}
-use Rattle.page_model.specs.Labels.{Look}
 use Rattle.tpl_model.specs.KeptLines.Changes.{Change, also, nothing, stays, chain, changed}
 use Rattle.tpl_model.specs.declared.change.Change as code
 use Rattle.tpl_drawn.specs.Marks.{children_in, Knows}
 use Rattle.tpl_drawn.proofs.Numbered.Marks.{children_after}
+use Rattle.tpl_drawn.proofs.Shaped.Behind.{row_shown}
 use Rattle.tpl_model.specs.KeptLines.Kept.{rows_from}
-use Rattle.tpl_model.specs.KeptLines.Kept as held_rows
 use Rattle.tpl_model.specs.Lines.{Block}
 use Rattle.tpl_model.specs.Shapes.{Here}
-use Rattle.tpl_drawn.specs.Heads.{rows_in}
 use Rattle.tpl_model.specs.declared.shown.Address.{Address}
 use Rattle.tpl_model.specs.ShownNodes.Shapes.{Marked, Next}
 use Rattle.tpl_model.specs.PageUpdates.PageMemos.{PageMemo, blank, row, nodes, row_nodes}
 use Rattle.tpl_drawn.specs.Comparison.{marked_by, restated_part, restating, row_marks, touched_part, touching}
 use Rattle.tpl_drawn.specs.Walks.{Walk, as_listed, further, of_lines, of_rows, or_stays}
 use Rattle.tpl_drawn.proofs.Compares.Walks.{alone, both_gone, listed_both, none_listed, stays_gone}
-
--- what is kept of the lines of a row, as nodes
-abbrev pub row_shown : Block → Here → PageMemo → Forest Look
-row_shown inner h m = nodes (Some h.key) inner m
 
 -- one row, and those behind it
 row_also : (known : ℕ → Option ℕ) (inner : Block) (h : Here) (m next : PageMemo) (c d : Change) →
@@ -170,15 +160,7 @@ pub staying_row : (known : ℕ → Option ℕ) (k : Option (List ℕ)) (inner : 
     ds ≡ cs ++ children_in known (nodes k inner m) → alone ds ≡ further (alone cs) (of_lines known k inner m stays)
 staying_row known k inner m cs ds e = ap alone e ∙ ap (further (alone cs)) (stays_gone known k inner m)
 
--- ---- a loop
-
--- what is kept of rows that come from an outcome
-pub rows_held : (o : Outcome) (ms : List PageMemo) → (t : Table) × (rows_from t 0 (rows_in o) ms ≡ held_rows.rows_of o ms)
-rows_held (Good (value.Rows t)) ms = (t, refl)
-rows_held (Good (value.Bool b)) ms = (record { fields = []; rows = [] }, refl)
-rows_held (Good (value.Int i)) ms = (record { fields = []; rows = [] }, refl)
-rows_held (Good (value.Text t)) ms = (record { fields = []; rows = [] }, refl)
-rows_held (Bad e) ms = (record { fields = []; rows = [] }, refl)
+-- ---- what stands at a place
 
 -- the item at a place, and those behind it
 pub left_of : {A : Type 0} (xs : List A) (n : ℕ) (x : A) → n < length xs → x ≡ get_or xs n x → drop n xs ≡ x ∷ drop (n + 1) xs

@@ -9,10 +9,12 @@ use Rattle.tpl_model.proofs.Shared.{tree_is}
 use Rattle.tpl_drawn.specs.Marks.{children_in, next_of}
 use Rattle.tpl_drawn.proofs.Numbered.Marks.{children_after}
 use Rattle.tpl_model.specs.Shapes.{node_text}
-use Rattle.tpl_drawn.specs.Shown.{is_line, where_shown}
+use Rattle.tpl_drawn.specs.Shown.{fits, inside_of, is_line, later_of, shows, where_shown}
 use Rattle.tpl_drawn.specs.Heads.{text_at}
 use Rattle.tpl_drawn.specs.Walks.{where_listed}
-use Rattle.tpl_model.specs.PageUpdates.PageMemos.{PageMemo, line}
+use Rattle.tpl_model.specs.PageUpdates.PageMemos.{PageMemo, line, nodes}
+use Rattle.tpl_model.specs.Lines.{Block}
+use Rattle.tpl_drawn.proofs.Shaped.Behind.{behind, first_behind, first_shown, two_shown}
 
 -- nothing more
 pub no_more : {B : Type 0} (a x : List B) → x ≡ [] → a ≡ a ++ x
@@ -88,3 +90,21 @@ branch_hidden known b f a e = no_more a (children_in known (where_shown b f)) (a
 pub branch_shown : (known : ℕ → Option ℕ) (b : Bool) (f : Forest Look) (a c : List Next) → b ≡ true → c ≡ a ++ children_in known f →
     c ≡ a ++ children_in known (where_shown b f)
 branch_shown known b f a c e h = h ∙ ap (λ z. a ++ children_in known (where_shown z f)) (sym e)
+
+-- ---- the children of lines that stay
+
+pub both_stay : (known : ℕ → Option ℕ) (f g : Forest Look) (a b c : List Next) → b ≡ a ++ children_in known f → c ≡ b ++ children_in known g →
+    c ≡ a ++ children_in known (after f g)
+both_stay known f g a b c e h = two_more a b c (children_in known f) (children_in known g) e h ∙ ap (λ z. a ++ z) (sym (children_after known f g))
+
+-- the first of them, and those behind it
+pub lines_stay : (known : ℕ → Option ℕ) (k : Option (List ℕ)) (b : Block) (m : PageMemo) (cs ds es : List Next) → fits b m ≡ true →
+    ds ≡ cs ++ children_in known (first_shown k b m) → es ≡ ds ++ children_in known (nodes k (behind b) (later_of m)) → es ≡ cs ++ children_in known (nodes k b m)
+lines_stay known k b m cs ds es fit e later =
+    both_stay known (first_shown k b m) (nodes k (behind b) (later_of m)) cs ds es e later ∙ ap (λ z. cs ++ children_in known z) (sym (first_behind k b m fit))
+
+pub branches_stay : (known : ℕ → Option ℕ) (k : Option (List ℕ)) (one other : Block) (m : PageMemo) (cs ds es : List Next) →
+    ds ≡ cs ++ children_in known (where_shown (shows m true) (nodes k one (inside_of m))) →
+    es ≡ ds ++ children_in known (where_shown (shows m false) (nodes k other (inside_of m))) → es ≡ cs ++ children_in known (two_shown k one other m)
+branches_stay known k one other m cs ds es e h =
+    both_stay known (where_shown (shows m true) (nodes k one (inside_of m))) (where_shown (shows m false) (nodes k other (inside_of m))) cs ds es e h

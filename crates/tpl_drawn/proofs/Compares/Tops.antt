@@ -19,6 +19,7 @@ use Rattle.tpl_model.specs.KeptLines.Memos.{Agrees}
 use Rattle.tpl_model.specs.KeptLines.Changes.{Change, stays, made, over, also, nothing, keys_in, Tells}
 use Rattle.tpl_model.specs.PageUpdates.PageMemos.{PageMemo, each_memo, hearing, nodes, row_nodes, rows_memo}
 use Rattle.tpl_drawn.specs.Comparison.{is_plain, keeps_nodes}
+use Rattle.tpl_drawn.proofs.Shaped.Behind.{row_shown}
 use Rattle.tpl_drawn.proofs.Compares.Sides.{Alike, kept, stays_kept, tried_kept, tried_nodes, tried_same}
 
 -- lines that stay do
@@ -67,27 +68,23 @@ siblings_after : (t s : Forest Look) → siblings (after t s) ≡ siblings t ++ 
 siblings_after none s = refl
 siblings_after (node a x k r) s = ap (λ ns. a ∷ ns) (siblings_after r s)
 
--- what rows show, by what is kept of them
-abbrev shown_row : Block → Here → PageMemo → Forest Look
-shown_row inner h m = nodes (Some h.key) inner m
-
 -- the topmost nodes of rows of these keys
 abbrev row_tops : Block → List (List ℕ) → List ℕ
 row_tops inner keys = flat_map (λ key. tops inner (Some key)) keys
 
 rows_tops : (links : List ℕ) (source : ℕ → Outcome) (inner : Block) → is_plain inner ≡ true → (t : Table) (i : ℕ) (rs : List Row) →
-    siblings (row_nodes (shown_row inner) (rows_memo false (λ h. kept links source (Some h) inner) t i rs)) ≡ row_tops inner (map (λ (r : Row). r.key) rs)
+    siblings (row_nodes (row_shown inner) (rows_memo false (λ h. kept links source (Some h) inner) t i rs)) ≡ row_tops inner (map (λ (r : Row). r.key) rs)
 rows_tops links source inner e t i [] = refl
 rows_tops links source inner e t i (r ∷ rs) =
     let here : Here = record { key = r.key; row = record { rows = t; place = i } } in
     let go : Here → PageMemo = λ h. kept links source (Some h) inner in
-    let next = row_nodes (shown_row inner) (rows_memo false go t (suc i) rs) in
-    siblings_after (shown_row inner here (go here)) next
+    let next = row_nodes (row_shown inner) (rows_memo false go t (suc i) rs) in
+    siblings_after (row_shown inner here (go here)) next
     ∙ (ap (λ ns. ns ++ siblings next) (plain_tops links source inner e (Some r.key) (Some here))
     ∙ ap (λ ns. tops inner (Some r.key) ++ ns) (rows_tops links source inner e t (suc i) rs))
 
 each_tops : (links : List ℕ) (source : ℕ → Outcome) (inner : Block) → is_plain inner ≡ true → (o : Outcome) →
-    siblings (row_nodes (shown_row inner) (each_memo false (λ h. kept links source (Some h) inner) o)) ≡ row_tops inner (keys_in o)
+    siblings (row_nodes (row_shown inner) (each_memo false (λ h. kept links source (Some h) inner) o)) ≡ row_tops inner (keys_in o)
 each_tops links source inner e (Good (value.Rows t)) = rows_tops links source inner e t 0 t.rows
 each_tops links source inner e (Good (value.Bool b)) = refl
 each_tops links source inner e (Good (value.Int n)) = refl
@@ -128,8 +125,8 @@ kept_siblings links before source now agrees (each f inner rest) k here here' ma
 kept_siblings links before source now agrees (each f inner rest) k here here' (over s i l) like t e =
     let o = (hearing (evaluating links source) (row_here here) f).outcome in
     let o' = (hearing (evaluating links now) (row_here here') f).outcome in
-    let rows = row_nodes (shown_row inner) (each_memo false (λ h. kept links source (Some h) inner) o) in
-    let rows' = row_nodes (shown_row inner) (each_memo false (λ h. kept links now (Some h) inner) o') in
+    let rows = row_nodes (row_shown inner) (each_memo false (λ h. kept links source (Some h) inner) o) in
+    let rows' = row_nodes (row_shown inner) (each_memo false (λ h. kept links now (Some h) inner) o') in
     let r = nodes k rest (kept links source here rest) in
     let r' = nodes k rest (kept links now here' rest) in
     let both = both_hold (s && is_plain inner) (keeps_nodes rest l) e in

@@ -4,26 +4,24 @@ use Rattle.std.proofs.lemmas.Bool.{false≢true}
 use Rattle.sig_base.specs.declared.value.Value.TheVariants as value
 use Rattle.sig_base.specs.declared.value.Outcome.{Outcome}
 use Rattle.sig_base.specs.declared.value.Outcome.TheVariants.{Good, Bad}
-use Rattle.sig_formula.specs.Trees.{Tree}
 use Rattle.page_model.specs.Addresses.{address}
 use Rattle.page_model.specs.Forest.{Forest, none, node}
-use Rattle.page_model.specs.Labels.{Root, Look, Text, Element}
+use Rattle.page_model.specs.Labels.{Root, Look, Text}
 use Rattle.tpl_model.specs.KeptLines.Changes.{Change, stays, made, over, also, nothing, chain, changed, first_in, is_stays}
 use Rattle.tpl_model.specs.declared.change.Change as code
 use Rattle.tpl_drawn.specs.Marks.{children_in, marked_at, marks_in}
 use Rattle.tpl_drawn.proofs.Numbered.Marks.{children_after}
 use Rattle.tpl_model.specs.Shapes.{node_text}
 use Rattle.tpl_model.specs.Lines.{Block, empty, text, tag, choice, each, attempt}
-use Rattle.tpl_drawn.specs.Shown.{attributes_of, fits, inside_of, later_of, part_of, rows_of, shows, shows_part, where_shown}
+use Rattle.tpl_drawn.specs.Shown.{fits, later_of, part_of, shows_part}
 use Rattle.tpl_drawn.proofs.Placed.Placed.{unfit_shown}
 use Rattle.tpl_scratch.specs.Pages.{shows_branch}
 use Rattle.tpl_model.specs.ShownNodes.Shapes.{Marked, Next}
-use Rattle.tpl_drawn.specs.Heads.{text_at}
-use Rattle.tpl_model.specs.PageUpdates.PageMemos.{PageMemo, unread, blank, line, element, branch, loop, row, either, nodes, part_shown, picks, row_nodes, values}
-use Rattle.tpl_drawn.proofs.Compares.Siblings.{two_more}
+use Rattle.tpl_model.specs.PageUpdates.PageMemos.{PageMemo, unread, blank, line, element, branch, loop, row, either, nodes, part_shown, picks, row_nodes}
 use Rattle.tpl_drawn.proofs.Compares.Tops.{stays_keep}
+use Rattle.tpl_drawn.proofs.Shaped.Behind.{behind}
 use Rattle.tpl_drawn.specs.Comparison.{Marking, keeps_nodes, marked_by, marked_unless, restated_part, restating, touched_part, touching}
-use Rattle.tpl_drawn.specs.Walks.{Walk, as_listed, further, idle, where_listed, of_element, of_inside, of_lines, of_made, of_marks, of_rows, of_text, of_tried, where_gone}
+use Rattle.tpl_drawn.specs.Walks.{Walk, as_listed, further, idle, where_listed, of_element, of_first, of_inside, of_lines, of_made, of_marks, of_tried, where_gone}
 
 -- ---- one part behind another
 
@@ -67,9 +65,6 @@ pub parts_gone : (listed : Bool) (a b c v w x : Walk) → x ≡ further v w → 
     c ≡ further a (as_listed listed x)
 parts_gone listed a b c v w x parts e h =
     both_gone a b c (as_listed listed v) (as_listed listed w) e h ∙ ap (further a) (listed_both listed v w ∙ ap (as_listed listed) (sym parts))
-
-children_gone : (a b c : List Next) (v w x : Walk) → x ≡ further v w → b ≡ a ++ v.children → c ≡ b ++ w.children → c ≡ a ++ x.children
-children_gone a b c v w x parts e h = two_more a b c v.children w.children e h ∙ ap (λ z. a ++ z.children) (sym parts)
 
 -- ---- lines of other kinds, lines that stay, and those that were made anew
 
@@ -169,27 +164,6 @@ unless_new : (s : Bool) (x : Look) (cs : List Next) (below : List Marked) → []
 unless_new true x cs below = refl
 unless_new false x cs below = refl
 
-pub text_parts : (known : ℕ → Option ℕ) (k : Option (List ℕ)) (n : ℕ) (f : Tree) (rest : Block) (m : PageMemo) (s : Bool) (i l : Change) →
-    fits (text n f rest) m ≡ true →
-    of_lines known k (text n f rest) m (over s i l) ≡ further (of_text known s (text_at (address n k) m)) (of_lines known k rest (later_of m) l)
-text_parts known k n f rest (line h r) s i l fit =
-    let a = address n k in
-    let x : Look = Text (node_text h.outcome) in
-    λ j. record {
-      children = children_in known (nodes k (text n f rest) (line h r));
-      touched = unless_alone true (known a) Root j ++ marked_by touching touched_part known k rest r l;
-      restated = (unless_alone s (known a) x ∙ ap (λ z. if s then [] else z) (sym (append-nil (marked_at (known a) x [] [])))) j
-          ++ marked_by restating restated_part known k rest r l;
-    }
-text_parts known k n f rest m s i l fit = absurd (false≢true fit)
-
-pub tag_parts : (known : ℕ → Option ℕ) (k : Option (List ℕ)) (n : ℕ) (name : List ℕ) (xs : List (List ℕ × Tree)) (inner rest : Block) (m : PageMemo) (s : Bool)
-    (i l : Change) → fits (tag n name xs inner rest) m ≡ true →
-    of_lines known k (tag n name xs inner rest) m (over s i l)
-    ≡ further (of_element known k s (address n k) (Element name (values xs (attributes_of m))) inner (inside_of m) i) (of_lines known k rest (later_of m) l)
-tag_parts known k n name xs inner rest (element hs i' r) s i l fit = refl
-tag_parts known k n name xs inner rest m s i l fit = absurd (false≢true fit)
-
 -- of two branches that one which is shown
 picked_gone : (known : ℕ → Option ℕ) (o : Outcome) (f g : Forest Look) (t u v w : List Marked) →
     record { children = children_in known (picks o f g none); touched = picks o t u []; restated = picks o v w [] }
@@ -201,32 +175,6 @@ picked_gone known (Good (value.Int i)) f g t u v w = refl
 picked_gone known (Good (value.Text s)) f g t u v w = refl
 picked_gone known (Good (value.Rows s)) f g t u v w = refl
 picked_gone known (Bad e) f g t u v w = refl
-
-pub choice_parts : (known : ℕ → Option ℕ) (k : Option (List ℕ)) (f : Tree) (one other rest : Block) (m : PageMemo) (s : Bool) (i l : Change) →
-    fits (choice f one other rest) m ≡ true →
-    of_lines known k (choice f one other rest) m (over s i l)
-    ≡ further (further (where_gone (shows m true) (of_lines known k one (inside_of m) (first_in i)))
-    (where_gone (shows m false) (of_lines known k other (inside_of m) (first_in i)))) (of_lines known k rest (later_of m) l)
-choice_parts known k f one other rest (branch h i' r) s i l fit =
-    (λ j. record {
-      children = children_after known (picks h.outcome (nodes k one i') (nodes k other i') none) (nodes k rest r) j;
-      touched = marked_by touching touched_part known k (choice f one other rest) (branch h i' r) (over s i l);
-      restated = marked_by restating restated_part known k (choice f one other rest) (branch h i' r) (over s i l);
-    })
-    ∙ ap (λ z. further z (of_lines known k rest r l))
-    (picked_gone known h.outcome (nodes k one i') (nodes k other i') (marked_by touching touched_part known k one i' (first_in i))
-    (marked_by touching touched_part known k other i' (first_in i)) (marked_by restating restated_part known k one i' (first_in i))
-    (marked_by restating restated_part known k other i' (first_in i)))
-choice_parts known k f one other rest m s i l fit = absurd (false≢true fit)
-
-pub each_parts : (known : ℕ → Option ℕ) (k : Option (List ℕ)) (f : Tree) (inner rest : Block) (m : PageMemo) (s : Bool) (i l : Change) →
-    fits (each f inner rest) m ≡ true → of_lines known k (each f inner rest) m (over s i l) ≡ further (of_rows known inner (rows_of m) i) (of_lines known k rest (later_of m) l)
-each_parts known k f inner rest (loop h i' r) s i l fit = λ j. record {
-  children = children_after known (row_nodes (λ h m. nodes (Some h.key) inner m) i') (nodes k rest r) j;
-  touched = marked_by touching touched_part known k (each f inner rest) (loop h i' r) (over s i l);
-  restated = marked_by restating restated_part known k (each f inner rest) (loop h i' r) (over s i l);
-}
-each_parts known k f inner rest m s i l fit = absurd (false≢true fit)
 
 -- of two parts that one which is shown
 part_gone : (known : ℕ → Option ℕ) (k : Option (List ℕ)) (s : Bool) (first second : Block) (a b : PageMemo) →
@@ -242,75 +190,54 @@ part_gone known k s first second a (loop h i r) = refl
 part_gone known k s first second a (row h i r) = refl
 part_gone known k s first second a (either x y r) = refl
 
-pub attempt_parts : (known : ℕ → Option ℕ) (k : Option (List ℕ)) (first second rest : Block) (m : PageMemo) (s : Bool) (i l : Change) →
-    fits (attempt first second rest) m ≡ true →
-    of_lines known k (attempt first second rest) m (over s i l)
-    ≡ further (further (where_gone (shows m true) (of_tried known s (nodes k first (inside_of m))))
-    (where_gone (shows m false) (of_tried known s (nodes k second (inside_of m))))) (of_lines known k rest (later_of m) l)
-attempt_parts known k first second rest (either a b r) s i l fit =
+-- what comes of lines, part by part
+first_parts : (known : ℕ → Option ℕ) (k : Option (List ℕ)) (s : Bool) (b : Block) (m : PageMemo) (i l : Change) → fits b m ≡ true →
+    of_lines known k b m (over s i l) ≡ further (of_first known k s b m i) (of_lines known k (behind b) (later_of m) l)
+first_parts known k s (text n f rest) (line h r) i l fit =
+    let a = address n k in
+    let x : Look = Text (node_text h.outcome) in
+    λ j. record {
+      children = children_in known (nodes k (text n f rest) (line h r));
+      touched = unless_alone true (known a) Root j ++ marked_by touching touched_part known k rest r l;
+      restated = (unless_alone s (known a) x ∙ ap (λ z. if s then [] else z) (sym (append-nil (marked_at (known a) x [] [])))) j
+          ++ marked_by restating restated_part known k rest r l;
+    }
+first_parts known k s (tag n name xs inner rest) (element hs i' r) i l fit = refl
+first_parts known k s (choice f one other rest) (branch h i' r) i l fit =
+    (λ j. record {
+      children = children_after known (picks h.outcome (nodes k one i') (nodes k other i') none) (nodes k rest r) j;
+      touched = marked_by touching touched_part known k (choice f one other rest) (branch h i' r) (over s i l);
+      restated = marked_by restating restated_part known k (choice f one other rest) (branch h i' r) (over s i l);
+    })
+    ∙ ap (λ z. further z (of_lines known k rest r l))
+    (picked_gone known h.outcome (nodes k one i') (nodes k other i') (marked_by touching touched_part known k one i' (first_in i))
+    (marked_by touching touched_part known k other i' (first_in i)) (marked_by restating restated_part known k one i' (first_in i))
+    (marked_by restating restated_part known k other i' (first_in i)))
+first_parts known k s (each f inner rest) (loop h i' r) i l fit = λ j. record {
+  children = children_after known (row_nodes (λ h m. nodes (Some h.key) inner m) i') (nodes k rest r) j;
+  touched = marked_by touching touched_part known k (each f inner rest) (loop h i' r) (over s i l);
+  restated = marked_by restating restated_part known k (each f inner rest) (loop h i' r) (over s i l);
+}
+first_parts known k s (attempt first second rest) (either a b r) i l fit =
     (λ j. record {
       children = children_after known (part_shown b (nodes k first a) (nodes k second b)) (nodes k rest r) j;
       touched = marked_by touching touched_part known k (attempt first second rest) (either a b r) (over s i l);
       restated = marked_by restating restated_part known k (attempt first second rest) (either a b r) (over s i l);
     })
     ∙ ap (λ z. further z (of_lines known k rest r l)) (part_gone known k s first second a b)
-attempt_parts known k first second rest m s i l fit = absurd (false≢true fit)
+first_parts known k s (text n f rest) m i l fit = absurd (false≢true fit)
+first_parts known k s (tag n name xs inner rest) m i l fit = absurd (false≢true fit)
+first_parts known k s (choice f one other rest) m i l fit = absurd (false≢true fit)
+first_parts known k s (each f inner rest) m i l fit = absurd (false≢true fit)
+first_parts known k s (attempt first second rest) m i l fit = absurd (false≢true fit)
+first_parts known k s empty m i l fit = absurd (false≢true fit)
 
--- ---- the children of lines that stay
-
-pub text_stays : (known : ℕ → Option ℕ) (k : Option (List ℕ)) (n : ℕ) (f : Tree) (rest : Block) (m : PageMemo) (a b c : List Next) → fits (text n f rest) m ≡ true →
-    b ≡ a ++ children_in known (text_at (address n k) m) → c ≡ b ++ children_in known (nodes k rest (later_of m)) → c ≡ a ++ children_in known (nodes k (text n f rest) m)
-text_stays known k n f rest m a b c fit e h =
-    children_gone a b c (of_text known true (text_at (address n k) m)) (of_lines known k rest (later_of m) nothing)
-    (of_lines known k (text n f rest) m (over true nothing nothing)) (text_parts known k n f rest m true nothing nothing fit) e h
-
-pub tag_stays : (known : ℕ → Option ℕ) (k : Option (List ℕ)) (n : ℕ) (name : List ℕ) (xs : List (List ℕ × Tree)) (inner rest : Block) (m : PageMemo)
-    (a b c : List Next) → fits (tag n name xs inner rest) m ≡ true →
-    b ≡ a ++ children_in known (node (address n k) (Element name (values xs (attributes_of m))) (nodes k inner (inside_of m)) none) →
-    c ≡ b ++ children_in known (nodes k rest (later_of m)) → c ≡ a ++ children_in known (nodes k (tag n name xs inner rest) m)
-tag_stays known k n name xs inner rest m a b c fit e h =
-    children_gone a b c (of_element known k true (address n k) (Element name (values xs (attributes_of m))) inner (inside_of m) nothing)
-    (of_lines known k rest (later_of m) nothing) (of_lines known k (tag n name xs inner rest) m (over true nothing nothing))
-    (tag_parts known k n name xs inner rest m true nothing nothing fit) e h
-
--- a branch, where it is shown
-shown_gone : (known : ℕ → Option ℕ) (b : Bool) (f : Forest Look) (w : Walk) → children_in known f ≡ w.children →
-    children_in known (where_shown b f) ≡ (where_gone b w).children
-shown_gone known true f w e = e
-shown_gone known false f w e = refl
-
-pub choice_stays : (known : ℕ → Option ℕ) (k : Option (List ℕ)) (f : Tree) (one other rest : Block) (m : PageMemo) (a b c d : List Next) →
-    fits (choice f one other rest) m ≡ true → b ≡ a ++ children_in known (where_shown (shows m true) (nodes k one (inside_of m))) →
-    c ≡ b ++ children_in known (where_shown (shows m false) (nodes k other (inside_of m))) → d ≡ c ++ children_in known (nodes k rest (later_of m)) →
-    d ≡ a ++ children_in known (nodes k (choice f one other rest) m)
-choice_stays known k f one other rest m a b c d fit e g h =
-    let v = of_lines known k one (inside_of m) (first_in nothing) in
-    let w = of_lines known k other (inside_of m) (first_in nothing) in
-    children_gone a c d (further (where_gone (shows m true) v) (where_gone (shows m false) w)) (of_lines known k rest (later_of m) nothing)
-    (of_lines known k (choice f one other rest) m (over true nothing nothing)) (choice_parts known k f one other rest m true nothing nothing fit)
-    (two_more a b c (where_gone (shows m true) v).children (where_gone (shows m false) w).children
-    (e ∙ ap (λ z. a ++ z) (shown_gone known (shows m true) (nodes k one (inside_of m)) v refl))
-    (g ∙ ap (λ z. b ++ z) (shown_gone known (shows m false) (nodes k other (inside_of m)) w refl))) h
-
-pub each_stays : (known : ℕ → Option ℕ) (k : Option (List ℕ)) (f : Tree) (inner rest : Block) (m : PageMemo) (a b c : List Next) → fits (each f inner rest) m ≡ true →
-    b ≡ a ++ children_in known (row_nodes (λ h i. nodes (Some h.key) inner i) (rows_of m)) → c ≡ b ++ children_in known (nodes k rest (later_of m)) →
-    c ≡ a ++ children_in known (nodes k (each f inner rest) m)
-each_stays known k f inner rest m a b c fit e h =
-    children_gone a b c (of_rows known inner (rows_of m) nothing) (of_lines known k rest (later_of m) nothing)
-    (of_lines known k (each f inner rest) m (over true nothing nothing)) (each_parts known k f inner rest m true nothing nothing fit) e h
-
-pub attempt_stays : (known : ℕ → Option ℕ) (k : Option (List ℕ)) (first second rest : Block) (m : PageMemo) (a b c d : List Next) →
-    fits (attempt first second rest) m ≡ true → b ≡ a ++ children_in known (where_shown (shows m true) (nodes k first (inside_of m))) →
-    c ≡ b ++ children_in known (where_shown (shows m false) (nodes k second (inside_of m))) → d ≡ c ++ children_in known (nodes k rest (later_of m)) →
-    d ≡ a ++ children_in known (nodes k (attempt first second rest) m)
-attempt_stays known k first second rest m a b c d fit e g h =
-    let v = of_tried known true (nodes k first (inside_of m)) in
-    let w = of_tried known true (nodes k second (inside_of m)) in
-    children_gone a c d (further (where_gone (shows m true) v) (where_gone (shows m false) w)) (of_lines known k rest (later_of m) nothing)
-    (of_lines known k (attempt first second rest) m (over true nothing nothing)) (attempt_parts known k first second rest m true nothing nothing fit)
-    (two_more a b c (where_gone (shows m true) v).children (where_gone (shows m false) w).children
-    (e ∙ ap (λ z. a ++ z) (shown_gone known (shows m true) (nodes k first (inside_of m)) v refl))
-    (g ∙ ap (λ z. b ++ z) (shown_gone known (shows m false) (nodes k second (inside_of m)) w refl))) h
+pub first_gone : (listed : Bool) (known : ℕ → Option ℕ) (k : Option (List ℕ)) (s : Bool) (b rest : Block) (m : PageMemo) (i l : Change) (before mid now : Walk) →
+    fits b m ≡ true → rest ≡ behind b → mid ≡ further before (as_listed listed (of_first known k s b m i)) →
+    now ≡ further mid (as_listed listed (of_lines known k rest (later_of m) l)) → now ≡ further before (as_listed listed (of_lines known k b m (over s i l)))
+first_gone listed known k s b rest m i l before mid now fit is e h =
+    parts_gone listed before mid now (of_first known k s b m i) (of_lines known k (behind b) (later_of m) l) (of_lines known k b m (over s i l))
+    (first_parts known k s b m i l fit) e (h ∙ ap (λ z. further mid (as_listed listed (of_lines known k z (later_of m) l))) is)
 
 -- the nodes of a part stay
 pub tried_stays : (known : ℕ → Option ℕ) (s : Bool) (f : Forest Look) → s ≡ true → alone (children_in known f) ≡ of_tried known s f

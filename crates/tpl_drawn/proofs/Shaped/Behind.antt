@@ -1,28 +1,23 @@
 -- Nodes that are appended line by line are those that lines show.
-use Rattle.std.proofs.Common.{◌≡◌, ◌<◌, ◌≤◌, ℕ, zero, suc, Bool, true, false, List, [], ◌∷◌, ◌++◌, length, get_or, map, take, Option, Some, None, slice_get, refl, sym, ap, subst, ◌∙◌, arith}
+use Rattle.std.proofs.Common.{◌≡◌, ◌<◌, ◌≤◌, ℕ, zero, suc, Bool, true, false, List, [], ◌∷◌, ◌++◌, length, map, take, Option, Some, None, slice_get, refl, sym, ap, subst, ◌∙◌, arith}
 use Rattle.std.proofs.lemmas.Bool.{false≢true}
 use Rattle.std.proofs.lemmas.List.{take_all}
 use Rattle.sig_base.specs.Tables.{Table}
 use Rattle.sig_base.specs.declared.rows.Row.{Row}
-use Rattle.sig_base.specs.declared.value.Value.TheVariants as value
-use Rattle.sig_base.specs.declared.value.Outcome.{Outcome}
-use Rattle.sig_base.specs.declared.value.Outcome.TheVariants.{Good, Bad}
-use Rattle.sig_formula.specs.Trees.{Tree}
 use Rattle.page_model.specs.Addresses.{address}
 use Rattle.page_model.specs.Forest.{Forest, none, node, after}
-use Rattle.page_model.specs.Labels.{Look, Text, Element}
+use Rattle.page_model.specs.Labels.{Look, Element}
 use Rattle.tpl_model.specs.KeptLines.Kept.{kept, rows_from}
-use Rattle.tpl_model.specs.KeptLines.Kept as held_rows
 use Rattle.tpl_model.specs.declared.memo.PageMemo as held
-use Rattle.tpl_model.specs.Lines.{Block, text, tag, choice, each, attempt}
-use Rattle.tpl_model.specs.Shapes.{Here, node_text}
-use Rattle.tpl_drawn.specs.Shown.{attributes_of, fits, inside_of, later_of, part_of, rows_of, shows, shows_part, where_shown}
+use Rattle.tpl_model.specs.Lines.{Block, empty, text, tag, choice, each, attempt}
+use Rattle.tpl_model.specs.Shapes.{Here}
+use Rattle.tpl_drawn.specs.Shown.{attributes_of, fits, inside_of, later_of, rows_of, shows, where_shown}
 use Rattle.tpl_drawn.proofs.Placed.Placed.{picked, tried, unfit_shown}
 use Rattle.tpl_scratch.proofs.Shared.{after_none, after_after}
 use Rattle.tpl_model.specs.ShownNodes.Shapes.{all_shown, shown_tree}
 use Rattle.tpl_model.specs.declared.shown.Shown.{Shown}
-use Rattle.tpl_drawn.specs.Heads.{rows_in, text_at}
-use Rattle.tpl_model.specs.PageUpdates.PageMemos.{PageMemo, line, element, branch, loop, row, either, nodes, part_shown, row_nodes, values}
+use Rattle.tpl_drawn.specs.Heads.{text_at}
+use Rattle.tpl_model.specs.PageUpdates.PageMemos.{PageMemo, line, element, branch, loop, row, either, nodes, row_nodes, values}
 
 -- ---- one node more
 
@@ -47,51 +42,52 @@ two_more a b c f g e h = h ∙ (ap (λ z. after z g) e ∙ after_after a f g)
 pub unfit_more : (k : Option (List ℕ)) (b : Block) (m : PageMemo) (a : Forest Look) → fits b m ≡ false → a ≡ after a (nodes k b m)
 unfit_more k b m a e = no_more a (nodes k b m) (unfit_shown k b m e)
 
--- a text, and the lines behind it
-pub text_more : (k : Option (List ℕ)) (n : ℕ) (f : Tree) (rest : Block) (m : PageMemo) (a b c : Forest Look) → fits (text n f rest) m ≡ true →
-    b ≡ after a (text_at (address n k) m) → c ≡ after b (nodes k rest (later_of m)) → c ≡ after a (nodes k (text n f rest) m)
-text_more k n f rest (line h r) a b c fit e later = two_more a b c (node (address n k) (Text (node_text h.outcome)) none none) (nodes k rest r) e later
-text_more k n f rest m a b c fit e later = absurd (false≢true fit)
+-- the lines behind the first
+abbrev pub behind : Block → Block
+behind (text n f rest) = rest
+behind (tag n name xs inner rest) = rest
+behind (choice f one other rest) = rest
+behind (each f inner rest) = rest
+behind (attempt first second rest) = rest
+behind empty = empty
 
--- an element, and the lines behind it
-pub tag_more : (k : Option (List ℕ)) (n : ℕ) (name : List ℕ) (xs : List (List ℕ × Tree)) (inner rest : Block) (m : PageMemo) (a b c : Forest Look) →
-    fits (tag n name xs inner rest) m ≡ true →
-    b ≡ after a (node (address n k) (Element name (values xs (attributes_of m))) (nodes k inner (inside_of m)) none) →
-    c ≡ after b (nodes k rest (later_of m)) → c ≡ after a (nodes k (tag n name xs inner rest) m)
-tag_more k n name xs inner rest (element hs i r) a b c fit e later =
-    two_more a b c (node (address n k) (Element name (values xs hs)) (nodes k inner i) none) (nodes k rest r) e later
-tag_more k n name xs inner rest m a b c fit e later = absurd (false≢true fit)
+-- two branches or parts, each where it is shown
+abbrev pub two_shown : Option (List ℕ) → Block → Block → PageMemo → Forest Look
+two_shown k one other m = after (where_shown (shows m true) (nodes k one (inside_of m))) (where_shown (shows m false) (nodes k other (inside_of m)))
 
--- a choice, and the lines behind it
-pub choice_more : (k : Option (List ℕ)) (f : Tree) (one other rest : Block) (m : PageMemo) (a b c d : Forest Look) → fits (choice f one other rest) m ≡ true →
-    b ≡ after a (where_shown (shows m true) (nodes k one (inside_of m))) →
-    c ≡ after b (where_shown (shows m false) (nodes k other (inside_of m))) →
-    d ≡ after c (nodes k rest (later_of m)) → d ≡ after a (nodes k (choice f one other rest) m)
-choice_more k f one other rest (branch h i r) a b c d fit e g later =
-    let x = where_shown (shows (branch h i r) true) (nodes k one i) in
-    let y = where_shown (shows (branch h i r) false) (nodes k other i) in
-    two_more a c d _ (nodes k rest r) (two_more a b c x y e g ∙ ap (after a) (picked h.outcome (nodes k one i) (nodes k other i))) later
-choice_more k f one other rest m a b c d fit e g later = absurd (false≢true fit)
+-- what the first of some lines shows
+abbrev pub first_shown : Option (List ℕ) → Block → PageMemo → Forest Look
+first_shown k (text n f rest) m = text_at (address n k) m
+first_shown k (tag n name xs inner rest) m = node (address n k) (Element name (values xs (attributes_of m))) (nodes k inner (inside_of m)) none
+first_shown k (choice f one other rest) m = two_shown k one other m
+first_shown k (each f inner rest) m = row_nodes (λ h i. nodes (Some h.key) inner i) (rows_of m)
+first_shown k (attempt first second rest) m = two_shown k first second m
+first_shown k empty m = none
 
--- what is tried, and the lines behind it
-pub attempt_more : (k : Option (List ℕ)) (first second rest : Block) (m : PageMemo) (a b c d : Forest Look) → fits (attempt first second rest) m ≡ true →
-    b ≡ after a (where_shown (shows m true) (nodes k first (inside_of m))) →
-    c ≡ after b (where_shown (shows m false) (nodes k second (inside_of m))) →
-    d ≡ after c (nodes k rest (later_of m)) → d ≡ after a (nodes k (attempt first second rest) m)
-attempt_more k first second rest (either x y r) a b c d fit e g later =
-    let f = where_shown (shows_part y true) (nodes k first (part_of x y)) in
-    let h = where_shown (shows_part y false) (nodes k second (part_of x y)) in
-    two_more a c d (part_shown y (nodes k first x) (nodes k second y)) (nodes k rest r)
-    (two_more a b c f h e g ∙ ap (after a) (tried k first second x y)) later
-attempt_more k first second rest m a b c d fit e g later = absurd (false≢true fit)
+-- lines show that, and what those behind it show
+pub first_behind : (k : Option (List ℕ)) (b : Block) (m : PageMemo) → fits b m ≡ true → nodes k b m ≡ after (first_shown k b m) (nodes k (behind b) (later_of m))
+first_behind k (text n f rest) (line h r) fit = refl
+first_behind k (tag n name xs inner rest) (element hs i r) fit = refl
+first_behind k (choice f one other rest) (branch h i r) fit = ap (λ z. after z (nodes k rest r)) (sym (picked h.outcome (nodes k one i) (nodes k other i)))
+first_behind k (each f inner rest) (loop h i r) fit = refl
+first_behind k (attempt first second rest) (either x y r) fit = ap (λ z. after z (nodes k rest r)) (sym (tried k first second x y))
+first_behind k (text n f rest) m fit = absurd (false≢true fit)
+first_behind k (tag n name xs inner rest) m fit = absurd (false≢true fit)
+first_behind k (choice f one other rest) m fit = absurd (false≢true fit)
+first_behind k (each f inner rest) m fit = absurd (false≢true fit)
+first_behind k (attempt first second rest) m fit = absurd (false≢true fit)
+first_behind k empty m fit = absurd (false≢true fit)
 
--- a loop, and the lines behind it
-pub each_more : (k : Option (List ℕ)) (f : Tree) (inner rest : Block) (m : PageMemo) (a b c : Forest Look) → fits (each f inner rest) m ≡ true →
-    b ≡ after a (row_nodes (λ h i. nodes (Some h.key) inner i) (rows_of m)) → c ≡ after b (nodes k rest (later_of m)) →
-    c ≡ after a (nodes k (each f inner rest) m)
-each_more k f inner rest (loop h i r) a b c fit e later =
-    two_more a b c (row_nodes (λ h i. nodes (Some h.key) inner i) i) (nodes k rest r) e later
-each_more k f inner rest m a b c fit e later = absurd (false≢true fit)
+pub lines_more : (k : Option (List ℕ)) (b : Block) (m : PageMemo) (a c d : Forest Look) → fits b m ≡ true → c ≡ after a (first_shown k b m) →
+    d ≡ after c (nodes k (behind b) (later_of m)) → d ≡ after a (nodes k b m)
+lines_more k b m a c d fit e later =
+    two_more a c d (first_shown k b m) (nodes k (behind b) (later_of m)) e later ∙ ap (after a) (sym (first_behind k b m fit))
+
+pub branches_more : (k : Option (List ℕ)) (one other : Block) (m : PageMemo) (a b c : Forest Look) →
+    b ≡ after a (where_shown (shows m true) (nodes k one (inside_of m))) → c ≡ after b (where_shown (shows m false) (nodes k other (inside_of m))) →
+    c ≡ after a (two_shown k one other m)
+branches_more k one other m a b c e g =
+    two_more a b c (where_shown (shows m true) (nodes k one (inside_of m))) (where_shown (shows m false) (nodes k other (inside_of m))) e g
 
 -- a branch that isn't shown, and one that is
 pub branch_off : (b : Bool) (f a : Forest Look) → b ≡ false → a ≡ after a (where_shown b f)
@@ -165,23 +161,8 @@ pub rows_all : (inner : Block) (rs : List Row) (xs : List held.PageMemo) (n : �
     RowsMore inner rs (map kept xs) a b
 rows_all inner rs xs n a b l p = subst (λ z. RowsMore inner rs (map kept z) a b) (take_all n xs l) p
 
--- the item at a place
-pub got : {A : Type 0} (xs : List A) (n : ℕ) (x : A) → n < length xs → x ≡ get_or xs n x → slice_get xs n ≡ Some x
-got [] n x l e = absurd (omega (arith, l))
-got (y ∷ ys) zero x l e = ap Some (sym e)
-got (y ∷ ys) (suc n) x l e = got ys n x (omega (arith, l)) e
-
 -- so many are taken
 pub taken_many : {A B : Type 0} (f : A → B) (xs : List A) (n : ℕ) → n < length xs → length (map f (take n xs)) ≡ n
 taken_many f [] n l = absurd (omega (arith, l))
 taken_many f (x ∷ xs) zero l = refl
 taken_many f (x ∷ xs) (suc n) l = ap suc (taken_many f xs n (omega (arith, l)))
-
--- the rows of a loop's outcome
-pub loop_rows : (go : Here → PageMemo → Forest Look) (o : Outcome) (ms : List PageMemo) →
-    (t : Table) × (row_nodes go (rows_from t 0 (rows_in o) ms) ≡ row_nodes go (held_rows.rows_of o ms))
-loop_rows go (Good (value.Rows t)) ms = (t, refl)
-loop_rows go (Good (value.Bool b)) ms = (record { fields = []; rows = [] }, refl)
-loop_rows go (Good (value.Int i)) ms = (record { fields = []; rows = [] }, refl)
-loop_rows go (Good (value.Text t)) ms = (record { fields = []; rows = [] }, refl)
-loop_rows go (Bad e) ms = (record { fields = []; rows = [] }, refl)

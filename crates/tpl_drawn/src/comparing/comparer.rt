@@ -1,5 +1,5 @@
 // Lines that are gone over by what became of what is kept of them.
-ghost use Rattle.std.specs.Prelude.{◌≡◌, ◌&&◌, ℕ, [], Option, Some, None, not, map, IfOk, OnOk};
+ghost use Rattle.std.specs.Prelude.{◌≡◌, ◌&&◌, ℕ, [], Option, Some, None, true, not, map, IfOk, OnOk};
 ghost use Rattle.std.specs.List.Sorted.{IsNonDecreasingBy, IsPermutation};
 ghost use Rattle.std.specs.Option.{option_copied};
 ghost use Rattle.sig_base.specs.Tables.{Table};
@@ -12,18 +12,18 @@ ghost use Rattle.tpl_model.specs.KeptLines.Changes.{chain, changed, first_in, is
 ghost use Rattle.tpl_drawn.specs.Marks.{Knows};
 ghost use Rattle.tpl_drawn.specs.Addresses.{number_on};
 ghost use Rattle.tpl_model.specs.KeptLines.Kept.{kept, rows_from};
-ghost use Rattle.tpl_drawn.specs.Shown.{attributes_of, inside_of, rows_of, shows};
+ghost use Rattle.tpl_drawn.specs.Shown.{attributes_of, fits, inside_of, shows};
 ghost use Rattle.tpl_model.specs.ShownNodes.Shapes.{mark_of};
 ghost use Rattle.tpl_model.specs.declared.mark.Mark.{Mark as AMark};
 ghost use Rattle.tpl_model.specs.PageUpdates.PageMemos.{values};
-ghost use Rattle.tpl_drawn.specs.Walks.{as_listed, further, of_element, of_inside, of_lines, of_marks, of_rows, or_stays, walk_of, where_gone};
+ghost use Rattle.tpl_drawn.specs.Walks.{as_listed, further, of_element, of_first, of_inside, of_lines, of_marks, of_rows, or_stays, walk_of, where_gone};
 
 use crate::comparing::keeping::{first_keeps, keeps_nodes};
 use crate::comparing::kept::{put_if_listed, put_kept};
 use crate::comparing::node_marks::{Compared, put_made, put_part, put_text_again};
 use crate::marks::PageNodes;
-use crate::nodes::{attributes_of, fits, inside_of, later_of, shows};
-use crate::shown::{put_attributes, rows_in};
+use crate::nodes::{attributes_of, fits, inside_of, later_of, loop_of, shows};
+use crate::shown::put_attributes;
 use sig_base::{NoMemory, Row, Text};
 use sig_formula::Formula;
 use std::alloc::Global;
@@ -308,43 +308,62 @@ fn compare_rows(
     Ok(())
 }
 
-// A loop whose rows were heard again.
+// The first of some lines, which was heard again and may be as it was heard before.
 #[cycle(comparing)]
-fn compare_each(
+fn compare_part(
     alloc: Global,
     listed: bool,
-    inner: &Block,
+    same: bool,
+    key: Option<&Text>,
+    lines: &Block,
     memo: &PageMemo,
     inside: &[Change],
     page: &PageNodes,
     children: &mut Vec<Child>,
     out: &mut Compared,
 ) -> Result<(), NoMemory>
-    ensures { (known : ℕ → Option ℕ) → Knows (number_on page.now) known →
+    ensures { fits (block lines.now) (kept memo.now) ≡ true → (known : ℕ → Option ℕ) → Knows (number_on page.now) known →
         OnOk result (walk_of children.new.items out.new ≡ further (walk_of children.old.items out.old)
-        (as_listed listed (of_rows known (block inner.now) (rows_of (kept memo.now)) (chain (map changed inside.now))))) }
+        (as_listed listed (of_first known (option_copied key.entry) same (block lines.now) (kept memo.now) (chain (map changed inside.now))))) }
 {
-    match memo {
-        PageMemo::Loop(heard, memos, _) => {
-            compare_rows(
-                alloc,
-                listed,
-                inner,
-                rows_in(&heard.outcome),
-                memos,
-                inside,
-                page,
-                children,
-                out,
+    match lines {
+        Block::Empty => Ok(()),
+        Block::Text(line, _, _) => {
+            put_text_again(alloc, listed, same, *line, key, memo, page, children, out)?;
+            Ok(())
+        }
+        Block::Tag(line, name, attributes, inner, _) => {
+            compare_element(
+                alloc, listed, same, *line, key, name, attributes, inner, memo, inside, page,
+                children, out,
             )?;
             Ok(())
         }
-        PageMemo::Unread => Ok(()),
-        PageMemo::Blank => Ok(()),
-        PageMemo::Line(_, _) => Ok(()),
-        PageMemo::Element(_, _, _) => Ok(()),
-        PageMemo::Branch(_, _, _) => Ok(()),
-        PageMemo::Either(_, _, _) => Ok(()),
+        Block::Choice(_, one, other, _) => {
+            compare_branch(
+                alloc, listed, true, key, one, memo, inside, page, children, out,
+            )?;
+            compare_branch(
+                alloc, listed, false, key, other, memo, inside, page, children, out,
+            )?;
+            Ok(())
+        }
+        Block::Each(_, inner, _) => {
+            let (rows, memos) = loop_of(memo);
+            compare_rows(
+                alloc, listed, inner, rows, memos, inside, page, children, out,
+            )?;
+            Ok(())
+        }
+        Block::Attempt(first, second, _) => {
+            put_part(
+                alloc, listed, same, true, key, first, memo, page, children, out,
+            )?;
+            put_part(
+                alloc, listed, same, false, key, second, memo, page, children, out,
+            )?;
+            Ok(())
+        }
     }
 }
 
@@ -370,44 +389,29 @@ fn compare_parts(
     if !fits(lines, memo) {
         return Ok(());
     }
+    compare_part(
+        alloc, listed, same, key, lines, memo, inside, page, children, out,
+    )?;
     let behind = later_of(memo);
     match lines {
         Block::Empty => Ok(()),
-        Block::Text(line, _, rest) => {
-            put_text_again(alloc, listed, same, *line, key, memo, page, children, out)?;
+        Block::Text(_, _, rest) => {
             compare_lines(alloc, listed, key, rest, behind, later, page, children, out)?;
             Ok(())
         }
-        Block::Tag(line, name, attributes, inner, rest) => {
-            compare_element(
-                alloc, listed, same, *line, key, name, attributes, inner, memo, inside, page,
-                children, out,
-            )?;
+        Block::Tag(_, _, _, _, rest) => {
             compare_lines(alloc, listed, key, rest, behind, later, page, children, out)?;
             Ok(())
         }
-        Block::Choice(_, one, other, rest) => {
-            compare_branch(
-                alloc, listed, true, key, one, memo, inside, page, children, out,
-            )?;
-            compare_branch(
-                alloc, listed, false, key, other, memo, inside, page, children, out,
-            )?;
+        Block::Choice(_, _, _, rest) => {
             compare_lines(alloc, listed, key, rest, behind, later, page, children, out)?;
             Ok(())
         }
-        Block::Each(_, inner, rest) => {
-            compare_each(alloc, listed, inner, memo, inside, page, children, out)?;
+        Block::Each(_, _, rest) => {
             compare_lines(alloc, listed, key, rest, behind, later, page, children, out)?;
             Ok(())
         }
-        Block::Attempt(first, second, rest) => {
-            put_part(
-                alloc, listed, same, true, key, first, memo, page, children, out,
-            )?;
-            put_part(
-                alloc, listed, same, false, key, second, memo, page, children, out,
-            )?;
+        Block::Attempt(_, _, rest) => {
             compare_lines(alloc, listed, key, rest, behind, later, page, children, out)?;
             Ok(())
         }

@@ -9,7 +9,7 @@ ghost use Rattle.tpl_blocks.specs.Blocks.{block, waiting};
 ghost use Rattle.tpl_drawn.specs.Marks.{children_in, Knows};
 ghost use Rattle.tpl_drawn.specs.Addresses.{number_on};
 ghost use Rattle.tpl_model.specs.KeptLines.Kept.{kept, rows_from};
-ghost use Rattle.tpl_drawn.specs.Shown.{attributes_of, inside_of, is_line, rows_of, shows, where_shown};
+ghost use Rattle.tpl_drawn.specs.Shown.{attributes_of, inside_of, is_line, shows, where_shown};
 ghost use Rattle.tpl_model.specs.ShownNodes.Shapes.{child_of};
 ghost use Rattle.tpl_drawn.specs.Heads.{text_at};
 ghost use Rattle.tpl_drawn.specs.Walks.{where_listed};
@@ -17,8 +17,8 @@ ghost use Rattle.tpl_model.specs.PageUpdates.PageMemos.{nodes, row_nodes, values
 
 use crate::comparing::children::put_new;
 use crate::marks::PageNodes;
-use crate::nodes::{fits, inside_of, later_of, shows};
-use crate::shown::{put_element, put_text, rows_in};
+use crate::nodes::{fits, inside_of, later_of, loop_of, shows};
+use crate::shown::{put_element, put_text};
 use sig_base::{NoMemory, Row, Text};
 use sig_formula::Formula;
 use std::alloc::Global;
@@ -140,33 +140,6 @@ fn put_staying_rows(
     Ok(())
 }
 
-// The nodes of a loop that stays.
-#[cycle(staying)]
-fn put_staying_each(
-    alloc: Global,
-    inner: &Block,
-    memo: &PageMemo,
-    page: &PageNodes,
-    children: &mut Vec<Child>,
-) -> Result<(), NoMemory>
-    ensures { (known : ℕ → Option ℕ) → Knows (number_on page.now) known →
-        OnOk result (map child_of children.new.items ≡ map child_of children.old.items
-        ++ children_in known (row_nodes (λ h m. nodes (Some h.key) (block inner.now) m) (rows_of (kept memo.now)))) }
-{
-    match memo {
-        PageMemo::Loop(heard, memos, _) => {
-            put_staying_rows(alloc, inner, rows_in(&heard.outcome), memos, page, children)?;
-            Ok(())
-        }
-        PageMemo::Unread => Ok(()),
-        PageMemo::Blank => Ok(()),
-        PageMemo::Line(_, _) => Ok(()),
-        PageMemo::Element(_, _, _) => Ok(()),
-        PageMemo::Branch(_, _, _) => Ok(()),
-        PageMemo::Either(_, _, _) => Ok(()),
-    }
-}
-
 // Appends the topmost nodes that lines show, by their numbers; one without a number comes with all below it.
 #[cycle(staying)]
 fn put_staying(
@@ -205,7 +178,8 @@ fn put_staying(
             Ok(())
         }
         Block::Each(_, inner, rest) => {
-            put_staying_each(alloc, inner, memo, page, children)?;
+            let (rows, memos) = loop_of(memo);
+            put_staying_rows(alloc, inner, rows, memos, page, children)?;
             put_staying(alloc, key, rest, later_of(memo), page, children)?;
             Ok(())
         }

@@ -3,9 +3,12 @@
 
 ghost use Rattle.std.specs.Prelude.{◌≡◌, map};
 ghost use Rattle.tpl_blocks.specs.Blocks.{block};
-ghost use Rattle.tpl_model.specs.KeptLines.Kept.{heard_of, kept};
-ghost use Rattle.tpl_drawn.specs.Shown.{attributes_of, fits, inside_of, is_branch, is_either, is_element, is_line, is_loop, later_of, part_of, shows, shows_part};
+ghost use Rattle.tpl_model.specs.KeptLines.Kept.{heard_of, kept, rows_from};
+ghost use Rattle.tpl_drawn.specs.Heads.{table_of};
+ghost use Rattle.tpl_drawn.specs.Shown.{attributes_of, fits, inside_of, is_branch, is_either, is_element, is_line, is_loop, later_of, part_of, rows_of, shows, shows_part};
 
+use crate::shown::rows_in;
+use sig_base::Row;
 use tpl_blocks::Block;
 use tpl_model::{Heard, PageMemo};
 use tpl_scratch::shows_branch;
@@ -181,5 +184,20 @@ pub(crate) fn shows(memo: &PageMemo, first: bool) -> bool
         PageMemo::Element(_, _, _) => false,
         PageMemo::Loop(_, _, _) => false,
         PageMemo::Either(_, second, _) => shows_part(second, first),
+    }
+}
+
+/// The rows of a loop, and what is kept for each of them.
+pub(crate) fn loop_of(memo: &PageMemo) -> (&[Row], &[PageMemo])
+    ensures { rows_from (table_of (kept memo.now)) 0 result.0.now (map kept result.1.now) ≡ rows_of (kept memo.now) }
+{
+    match memo {
+        PageMemo::Loop(heard, memos, _) => (rows_in(&heard.outcome), memos),
+        PageMemo::Unread => (&[], &[]),
+        PageMemo::Blank => (&[], &[]),
+        PageMemo::Line(_, _) => (&[], &[]),
+        PageMemo::Element(_, _, _) => (&[], &[]),
+        PageMemo::Branch(_, _, _) => (&[], &[]),
+        PageMemo::Either(_, _, _) => (&[], &[]),
     }
 }

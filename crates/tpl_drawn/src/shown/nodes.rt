@@ -7,12 +7,12 @@ ghost use Rattle.page_model.specs.Forest.{after, none, node};
 ghost use Rattle.page_model.specs.Labels as label;
 ghost use Rattle.tpl_blocks.specs.Blocks.{block, waiting};
 ghost use Rattle.tpl_model.specs.KeptLines.Kept.{kept, rows_from};
-ghost use Rattle.tpl_drawn.specs.Shown.{attributes_of, inside_of, rows_of, shows, where_shown};
+ghost use Rattle.tpl_drawn.specs.Shown.{attributes_of, inside_of, shows, where_shown};
 ghost use Rattle.tpl_model.specs.ShownNodes.Shapes.{all_shown};
 ghost use Rattle.tpl_model.specs.PageUpdates.PageMemos.{nodes, row_nodes, values};
 
-use crate::nodes::{attributes_of, fits, inside_of, later_of, shows};
-use crate::shown::parts::{put, put_attributes, put_text, rows_in};
+use crate::nodes::{attributes_of, fits, inside_of, later_of, loop_of, shows};
+use crate::shown::parts::{put, put_attributes, put_text};
 use sig_base::{NoMemory, Row, Text};
 use sig_formula::Formula;
 use std::alloc::Global;
@@ -91,31 +91,6 @@ fn put_rows(
     Ok(())
 }
 
-// The nodes of a loop.
-#[cycle(showing)]
-fn put_each(
-    alloc: Global,
-    inner: &Block,
-    memo: &PageMemo,
-    out: &mut Vec<Shown>,
-) -> Result<(), NoMemory>
-    ensures { OnOk result (all_shown out.new.items ≡ after (all_shown out.old.items)
-        (row_nodes (λ h m. nodes (Some h.key) (block inner.now) m) (rows_of (kept memo.now)))) }
-{
-    match memo {
-        PageMemo::Loop(heard, memos, _) => {
-            put_rows(alloc, inner, rows_in(&heard.outcome), memos, out)?;
-            Ok(())
-        }
-        PageMemo::Unread => Ok(()),
-        PageMemo::Blank => Ok(()),
-        PageMemo::Line(_, _) => Ok(()),
-        PageMemo::Element(_, _, _) => Ok(()),
-        PageMemo::Branch(_, _, _) => Ok(()),
-        PageMemo::Either(_, _, _) => Ok(()),
-    }
-}
-
 /// Appends the nodes that lines show in the row of this key, by what is kept of these lines; no formula is evaluated.
 ///
 /// # Errors
@@ -153,7 +128,8 @@ pub fn put_shown(
             Ok(())
         }
         Block::Each(_, inner, rest) => {
-            put_each(alloc, inner, memo, out)?;
+            let (rows, memos) = loop_of(memo);
+            put_rows(alloc, inner, rows, memos, out)?;
             put_shown(alloc, key, rest, later_of(memo), out)?;
             Ok(())
         }

@@ -65,6 +65,7 @@ pub(crate) fn rows_in(outcome: &Outcome) -> &[Row]
 /// # Errors
 ///
 /// `NoMemory` alone.
+#[tactic(auto, using(tpl_model::proofs::MemoEquations::kept_unread, tpl_model::proofs::MemoEquations::kept_blank, tpl_model::proofs::MemoEquations::kept_line, tpl_model::proofs::MemoEquations::kept_element, tpl_model::proofs::MemoEquations::kept_branch, tpl_model::proofs::MemoEquations::kept_loop, tpl_model::proofs::MemoEquations::kept_either, tpl_scratch::proofs::Shared::after_none))]
 pub(crate) fn put_text(
     alloc: Global,
     line: usize,

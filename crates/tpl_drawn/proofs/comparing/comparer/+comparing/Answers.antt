@@ -2,7 +2,6 @@ use Rattle.std.proofs.Common.{◌≡◌, ◌<◌, ◌+◌, ◌++◌, [], ◌∷�
 use Rattle.std.proofs.lemmas.Bool.Decides.{nat_tests}
 use Rattle.std.proofs.lemmas.List.{map-append}
 use Rattle.std.specs.Option.{option_copied}
-use Rattle.sig_formula.specs.Trees.{tree}
 use Rattle.page_model.specs.Addresses.{address}
 use Rattle.page_model.specs.Labels.{Element}
 use Rattle.tpl_blocks.specs.Blocks.{block, waiting}
@@ -10,13 +9,14 @@ use Rattle.tpl_model.specs.KeptLines.Changes.{chain, changed, first_in, over}
 use Rattle.tpl_model.proofs.ChangeEquations.{changed_made, changed_over, changed_stays}
 use Rattle.tpl_drawn.specs.Addresses.{number_on}
 use Rattle.tpl_model.specs.KeptLines.Kept.{heard_of, kept}
-use Rattle.tpl_drawn.specs.Shown.{attributes_of, inside_of, rows_of, shows}
-use Rattle.tpl_drawn.proofs.Placed.Equations.{of_blank, of_branch, of_either, of_element, of_line, of_loop, of_unread}
+use Rattle.tpl_drawn.specs.Heads.{table_of}
+use Rattle.tpl_drawn.specs.Shown.{attributes_of, inside_of, shows}
 use Rattle.tpl_model.specs.ShownNodes.Shapes.{child_of, mark_of}
 use Rattle.tpl_model.specs.PageUpdates.PageMemos.{nodes, values}
 use Rattle.tpl_drawn.specs.Walks.{as_listed, further, of_lines, of_rows, of_tried, or_stays, walk_of, where_gone}
-use Rattle.tpl_drawn.proofs.Compares.Rows.{all_left, item_at, left_of, one_left, past, rows_gone, rows_held, told_at}
-use Rattle.tpl_drawn.proofs.Compares.Walks.{alone_listed, attempt_parts, branch_off, branch_on, choice_parts, each_parts, element_goes, element_quiet, first_none, first_some, inside_goes, inside_keeps, inside_stays, kept_goes, kept_same, made_gone, none_gone, none_listed, parts_gone, put_staying_gone, stays_gone, tag_parts, text_parts, unfit_gone, unknown_element}
+use Rattle.tpl_drawn.proofs.Compares.Rows.{all_left, item_at, left_of, one_left, past, rows_gone, told_at}
+use Rattle.tpl_drawn.proofs.Shaped.Behind.{behind}
+use Rattle.tpl_drawn.proofs.Compares.Walks.{alone_listed, branch_off, branch_on, element_goes, element_quiet, first_gone, first_none, first_some, inside_goes, inside_keeps, inside_stays, kept_goes, kept_same, made_gone, none_gone, none_listed, parts_gone, put_staying_gone, stays_gone, unfit_gone, unknown_element}
 use Rattle.tpl_drawn.proofs.comparing.comparer.+comparing.Goals as goal
 
 -- ---- the first of some parts
@@ -187,35 +187,51 @@ compare_rows-returns u c =
     c.args.rows.now (map kept c.args.memos.now) c.args.inside.now (walk_of c.loop-place.children.items c.loop-place.out)
     (walk_of c.args.children.now.items c.args.out.now) (inr (ap (map kept) (past c.args.memos.now n (omega arith)))) c.loop-place.invariant
 
--- ---- a loop
+-- ---- the first of some lines
 
-pub compare_each-returns-in_ok-compare_rows-in-Loop : goal.compare_each-returns-in_ok-compare_rows-in-Loop
-compare_each-returns-in_ok-compare_rows-in-Loop u c = λ known k.
-    let l = rows_held c.in-Loop.heard.outcome (map kept c.in-Loop.memos.items) in
-    rw (c.rows_in.ensures, c.deref.ensures.value) at (c.in_ok-compare_rows-in-Loop.ensures known k l.0 0)
+pub compare_part-returns-in-Empty : goal.compare_part-returns-in-Empty
+compare_part-returns-in-Empty u c = λ fit known k. rw c.in-Empty.is (none_listed c.args.listed _ _ refl)
+
+pub compare_part-returns-in_ok-put_text_again-in-Text : goal.compare_part-returns-in_ok-put_text_again-in-Text
+compare_part-returns-in_ok-put_text_again-in-Text u c = λ fit known k.
+    rw c.in-Text.is (c.in_ok-put_text_again-in-Text.ensures (rw c.in-Text.is at fit) known k)
+
+pub compare_part-returns-in_ok-compare_element-in-Tag : goal.compare_part-returns-in_ok-compare_element-in-Tag
+compare_part-returns-in_ok-compare_element-in-Tag u c = λ fit known k.
+    rw c.in-Tag.is (rw (c.deref.ensures.value, c.deref-in-Tag.ensures) at (c.in_ok-compare_element-in-Tag.ensures known k))
+
+pub compare_part-returns-in_ok-compare_branch-in-Choice-2 : goal.compare_part-returns-in_ok-compare_branch-in-Choice-2
+compare_part-returns-in_ok-compare_branch-in-Choice-2 u c = λ fit known k.
+    let key = option_copied c.args.key in
+    let m = kept c.args.memo.now in
+    let inside = first_in (chain (map changed c.args.inside.now)) in
+    let one = where_gone (shows m true) (of_lines known key (block c.in-Choice.one.value) (inside_of m) inside) in
+    let other = where_gone (shows m false) (of_lines known key (block c.in-Choice.other.value) (inside_of m) inside) in
+    rw c.in-Choice.is
+    (parts_gone c.args.listed (walk_of c.args.children.now.items c.args.out.now) (walk_of c.compare_branch.new.children.items c.compare_branch.new.out)
+    (walk_of c.compare_branch-in-Choice.new.children.items c.compare_branch-in-Choice.new.out) one other (further one other) refl
+    (rw c.deref-in-Choice.ensures at (c.in_ok-compare_branch-in-Choice.ensures known k))
+    (rw c.deref-in-Choice-2.ensures at (c.in_ok-compare_branch-in-Choice-2.ensures known k)))
+
+pub compare_part-returns-in_ok-compare_rows-in-Each : goal.compare_part-returns-in_ok-compare_rows-in-Each
+compare_part-returns-in_ok-compare_rows-in-Each u c = λ fit known k.
+    let inner = block c.in-Each.inner.value in
+    rw c.in-Each.is
+    (rw c.deref-in-Each.ensures at (c.in_ok-compare_rows-in-Each.ensures known k (table_of (kept c.args.memo.now)) 0)
     ∙ ap (λ z. further (walk_of c.args.children.now.items c.args.out.now)
-    (as_listed c.args.listed (of_rows known (block c.args.inner.now) z (chain (map changed c.args.inside.now)))))
-    (l.1 ∙ sym (ap rows_of (of_loop _ _ _ _ c.in-Loop.is)))
+    (as_listed c.args.listed (of_rows known inner z (chain (map changed c.args.inside.now))))) c.loop_of.ensures)
 
-pub compare_each-returns-in-Unread : goal.compare_each-returns-in-Unread
-compare_each-returns-in-Unread u c = λ known k.
-    none_listed c.args.listed _ _ (ap (λ z. of_rows known (block c.args.inner.now) (rows_of z) (chain (map changed c.args.inside.now))) (of_unread _ c.in-Unread.is))
-
-pub compare_each-returns-in-Blank : goal.compare_each-returns-in-Blank
-compare_each-returns-in-Blank u c = λ known k.
-    none_listed c.args.listed _ _ (ap (λ z. of_rows known (block c.args.inner.now) (rows_of z) (chain (map changed c.args.inside.now))) (of_blank _ c.in-Blank.is))
-
-pub compare_each-returns-in-Line : goal.compare_each-returns-in-Line
-compare_each-returns-in-Line u c = λ known k.
-    none_listed c.args.listed _ _ (ap (λ z. of_rows known (block c.args.inner.now) (rows_of z) (chain (map changed c.args.inside.now))) (of_line _ _ _ c.in-Line.is))
-
-pub compare_each-returns-in-Element : goal.compare_each-returns-in-Element
-compare_each-returns-in-Element u c = λ known k.
-    none_listed c.args.listed _ _ (ap (λ z. of_rows known (block c.args.inner.now) (rows_of z) (chain (map changed c.args.inside.now))) (of_element _ _ _ _ c.in-Element.is))
-
-pub compare_each-returns-in-Branch : goal.compare_each-returns-in-Branch
-compare_each-returns-in-Branch u c = λ known k.
-    none_listed c.args.listed _ _ (ap (λ z. of_rows known (block c.args.inner.now) (rows_of z) (chain (map changed c.args.inside.now))) (of_branch _ _ _ _ c.in-Branch.is))
+pub compare_part-returns-in_ok-put_part-in-Attempt-2 : goal.compare_part-returns-in_ok-put_part-in-Attempt-2
+compare_part-returns-in_ok-put_part-in-Attempt-2 u c = λ fit known k.
+    let key = option_copied c.args.key in
+    let m = kept c.args.memo.now in
+    let one = where_gone (shows m true) (of_tried known c.args.same (nodes key (block c.in-Attempt.first.value) (inside_of m))) in
+    let other = where_gone (shows m false) (of_tried known c.args.same (nodes key (block c.in-Attempt.second.value) (inside_of m))) in
+    rw c.in-Attempt.is
+    (parts_gone c.args.listed (walk_of c.args.children.now.items c.args.out.now) (walk_of c.put_part.new.children.items c.put_part.new.out)
+    (walk_of c.put_part-in-Attempt.new.children.items c.put_part-in-Attempt.new.out) one other (further one other) refl
+    (rw c.deref-in-Attempt.ensures at (c.in_ok-put_part-in-Attempt.ensures known k))
+    (rw c.deref-in-Attempt-2.ensures at (c.in_ok-put_part-in-Attempt-2.ensures known k)))
 
 -- ---- lines whose first was heard again
 
@@ -225,59 +241,50 @@ compare_parts-returns-then-not-fits u c = λ known k.
     (unfit_gone known (option_copied c.args.key) (block c.args.lines.now) (kept c.args.memo.now) (over c.args.same (chain (map changed c.args.inside.now)) (changed c.args.later.now))
     (sym c.fits.ensures ∙ c.if-not-fits.true))
 
-pub compare_parts-returns-in-Empty : goal.compare_parts-returns-in-Empty
-compare_parts-returns-in-Empty u c = λ known k. rw c.in-Empty.is (none_listed c.args.listed _ _ refl)
-
 pub compare_parts-returns-in_ok-compare_lines-in-Text : goal.compare_parts-returns-in_ok-compare_lines-in-Text
 compare_parts-returns-in_ok-compare_lines-in-Text u c = λ known k.
-    let fit = rw c.in-Text.is at (sym c.fits.ensures ∙ c.if-not-fits.false) in
-    rw c.in-Text.is
-    (parts_gone c.args.listed (walk_of c.args.children.now.items c.args.out.now) (walk_of c.put_text_again.new.children.items c.put_text_again.new.out)
-    (walk_of c.compare_lines.new.children.items c.compare_lines.new.out) _ _ _
-    (text_parts known (option_copied c.args.key) c.in-Text.line (tree c.in-Text.field-1) (block c.in-Text.rest.value) (kept c.args.memo.now) c.args.same
-    (chain (map changed c.args.inside.now)) (changed c.args.later.now) fit)
-    (c.in_ok-put_text_again-in-Text.ensures fit known k) (rw (c.deref.ensures, c.later_of-behind.ensures) at (c.in_ok-compare_lines-in-Text.ensures known k)))
+    let fit = sym c.fits.ensures ∙ c.if-not-fits.false in
+    first_gone c.args.listed known (option_copied c.args.key) c.args.same (block c.args.lines.now) (block c.in-Text.rest.value) (kept c.args.memo.now)
+    (chain (map changed c.args.inside.now)) (changed c.args.later.now) (walk_of c.args.children.now.items c.args.out.now)
+    (walk_of c.compare_part.new.children.items c.compare_part.new.out) (walk_of c.compare_lines.new.children.items c.compare_lines.new.out)
+    fit (sym (ap (λ z. behind (block z)) c.in-Text.is)) (c.in_ok-compare_part.ensures fit known k)
+    (rw (c.deref.ensures, c.later_of-behind.ensures) at (c.in_ok-compare_lines-in-Text.ensures known k))
 
 pub compare_parts-returns-in_ok-compare_lines-in-Tag : goal.compare_parts-returns-in_ok-compare_lines-in-Tag
 compare_parts-returns-in_ok-compare_lines-in-Tag u c = λ known k.
-    let fit = rw c.in-Tag.is at (sym c.fits.ensures ∙ c.if-not-fits.false) in
-    rw c.in-Tag.is
-    (parts_gone c.args.listed (walk_of c.args.children.now.items c.args.out.now) (walk_of c.compare_element.new.children.items c.compare_element.new.out)
-    (walk_of c.compare_lines-in-Tag.new.children.items c.compare_lines-in-Tag.new.out) _ _ _
-    (tag_parts known (option_copied c.args.key) c.in-Tag.line c.in-Tag.name (waiting c.in-Tag.attributes.items) (block c.in-Tag.inner.value)
-    (block c.in-Tag.rest.value) (kept c.args.memo.now) c.args.same (chain (map changed c.args.inside.now)) (changed c.args.later.now) fit)
-    (rw (c.deref-in-Tag.ensures.value, c.deref-in-Tag-2.ensures) at (c.in_ok-compare_element-in-Tag.ensures known k))
-    (rw (c.deref-in-Tag-3.ensures, c.later_of-behind.ensures) at (c.in_ok-compare_lines-in-Tag.ensures known k)))
+    let fit = sym c.fits.ensures ∙ c.if-not-fits.false in
+    first_gone c.args.listed known (option_copied c.args.key) c.args.same (block c.args.lines.now) (block c.in-Tag.rest.value) (kept c.args.memo.now)
+    (chain (map changed c.args.inside.now)) (changed c.args.later.now) (walk_of c.args.children.now.items c.args.out.now)
+    (walk_of c.compare_part.new.children.items c.compare_part.new.out) (walk_of c.compare_lines-in-Tag.new.children.items c.compare_lines-in-Tag.new.out)
+    fit (sym (ap (λ z. behind (block z)) c.in-Tag.is)) (c.in_ok-compare_part.ensures fit known k)
+    (rw (c.deref-in-Tag.ensures, c.later_of-behind.ensures) at (c.in_ok-compare_lines-in-Tag.ensures known k))
 
 pub compare_parts-returns-in_ok-compare_lines-in-Choice : goal.compare_parts-returns-in_ok-compare_lines-in-Choice
 compare_parts-returns-in_ok-compare_lines-in-Choice u c = λ known k.
-    let fit = rw c.in-Choice.is at (sym c.fits.ensures ∙ c.if-not-fits.false) in
-    let key = option_copied c.args.key in
-    let m = kept c.args.memo.now in
-    let inside = first_in (chain (map changed c.args.inside.now)) in
-    let one = where_gone (shows m true) (of_lines known key (block c.in-Choice.one.value) (inside_of m) inside) in
-    let other = where_gone (shows m false) (of_lines known key (block c.in-Choice.other.value) (inside_of m) inside) in
-    rw c.in-Choice.is
-    (parts_gone c.args.listed (walk_of c.args.children.now.items c.args.out.now) (walk_of c.compare_branch-in-Choice.new.children.items c.compare_branch-in-Choice.new.out)
-    (walk_of c.compare_lines-in-Choice.new.children.items c.compare_lines-in-Choice.new.out) _ _ _
-    (choice_parts known (option_copied c.args.key) (tree c.in-Choice.field-0) (block c.in-Choice.one.value) (block c.in-Choice.other.value)
-    (block c.in-Choice.rest.value) (kept c.args.memo.now) c.args.same (chain (map changed c.args.inside.now)) (changed c.args.later.now) fit)
-    (parts_gone c.args.listed (walk_of c.args.children.now.items c.args.out.now) (walk_of c.compare_branch.new.children.items c.compare_branch.new.out)
-    (walk_of c.compare_branch-in-Choice.new.children.items c.compare_branch-in-Choice.new.out) one other (further one other) refl
-    (rw c.deref-in-Choice.ensures at (c.in_ok-compare_branch-in-Choice.ensures known k))
-    (rw c.deref-in-Choice-2.ensures at (c.in_ok-compare_branch-in-Choice-2.ensures known k)))
-    (rw (c.deref-in-Choice-3.ensures, c.later_of-behind.ensures) at (c.in_ok-compare_lines-in-Choice.ensures known k)))
+    let fit = sym c.fits.ensures ∙ c.if-not-fits.false in
+    first_gone c.args.listed known (option_copied c.args.key) c.args.same (block c.args.lines.now) (block c.in-Choice.rest.value) (kept c.args.memo.now)
+    (chain (map changed c.args.inside.now)) (changed c.args.later.now) (walk_of c.args.children.now.items c.args.out.now)
+    (walk_of c.compare_part.new.children.items c.compare_part.new.out) (walk_of c.compare_lines-in-Choice.new.children.items c.compare_lines-in-Choice.new.out)
+    fit (sym (ap (λ z. behind (block z)) c.in-Choice.is)) (c.in_ok-compare_part.ensures fit known k)
+    (rw (c.deref-in-Choice.ensures, c.later_of-behind.ensures) at (c.in_ok-compare_lines-in-Choice.ensures known k))
 
 pub compare_parts-returns-in_ok-compare_lines-in-Each : goal.compare_parts-returns-in_ok-compare_lines-in-Each
 compare_parts-returns-in_ok-compare_lines-in-Each u c = λ known k.
-    let fit = rw c.in-Each.is at (sym c.fits.ensures ∙ c.if-not-fits.false) in
-    rw c.in-Each.is
-    (parts_gone c.args.listed (walk_of c.args.children.now.items c.args.out.now) (walk_of c.compare_each.new.children.items c.compare_each.new.out)
-    (walk_of c.compare_lines-in-Each.new.children.items c.compare_lines-in-Each.new.out) _ _ _
-    (each_parts known (option_copied c.args.key) (tree c.in-Each.field-0) (block c.in-Each.inner.value) (block c.in-Each.rest.value) (kept c.args.memo.now)
-    c.args.same (chain (map changed c.args.inside.now)) (changed c.args.later.now) fit)
-    (rw c.deref-in-Each.ensures at (c.in_ok-compare_each-in-Each.ensures known k))
-    (rw (c.deref-in-Each-2.ensures, c.later_of-behind.ensures) at (c.in_ok-compare_lines-in-Each.ensures known k)))
+    let fit = sym c.fits.ensures ∙ c.if-not-fits.false in
+    first_gone c.args.listed known (option_copied c.args.key) c.args.same (block c.args.lines.now) (block c.in-Each.rest.value) (kept c.args.memo.now)
+    (chain (map changed c.args.inside.now)) (changed c.args.later.now) (walk_of c.args.children.now.items c.args.out.now)
+    (walk_of c.compare_part.new.children.items c.compare_part.new.out) (walk_of c.compare_lines-in-Each.new.children.items c.compare_lines-in-Each.new.out)
+    fit (sym (ap (λ z. behind (block z)) c.in-Each.is)) (c.in_ok-compare_part.ensures fit known k)
+    (rw (c.deref-in-Each.ensures, c.later_of-behind.ensures) at (c.in_ok-compare_lines-in-Each.ensures known k))
+
+pub compare_parts-returns-in_ok-compare_lines-in-Attempt : goal.compare_parts-returns-in_ok-compare_lines-in-Attempt
+compare_parts-returns-in_ok-compare_lines-in-Attempt u c = λ known k.
+    let fit = sym c.fits.ensures ∙ c.if-not-fits.false in
+    first_gone c.args.listed known (option_copied c.args.key) c.args.same (block c.args.lines.now) (block c.in-Attempt.rest.value) (kept c.args.memo.now)
+    (chain (map changed c.args.inside.now)) (changed c.args.later.now) (walk_of c.args.children.now.items c.args.out.now)
+    (walk_of c.compare_part.new.children.items c.compare_part.new.out) (walk_of c.compare_lines-in-Attempt.new.children.items c.compare_lines-in-Attempt.new.out)
+    fit (sym (ap (λ z. behind (block z)) c.in-Attempt.is)) (c.in_ok-compare_part.ensures fit known k)
+    (rw (c.deref-in-Attempt.ensures, c.later_of-behind.ensures) at (c.in_ok-compare_lines-in-Attempt.ensures known k))
 
 -- ---- lines
 
@@ -303,25 +310,3 @@ compare_lines-returns-in_ok-compare_parts-in-Over u c = λ known k.
     ∙ ap (λ z. further (walk_of c.args.children.now.items c.args.out.now)
     (as_listed c.args.listed (of_lines known (option_copied c.args.key) (block c.args.lines.now) (kept c.args.memo.now) z)))
     (sym (ap changed c.in-Over.is ∙ changed_over c.in-Over.same c.in-Over.inside c.in-Over.later))
-
-pub compare_each-returns-in-Either : goal.compare_each-returns-in-Either
-compare_each-returns-in-Either u c = λ known k.
-    none_listed c.args.listed _ _ (ap (λ z. of_rows known (block c.args.inner.now) (rows_of z) (chain (map changed c.args.inside.now))) (of_either _ _ _ _ c.in-Either.is))
-
-pub compare_parts-returns-in_ok-compare_lines-in-Attempt : goal.compare_parts-returns-in_ok-compare_lines-in-Attempt
-compare_parts-returns-in_ok-compare_lines-in-Attempt u c = λ known k.
-    let fit = rw c.in-Attempt.is at (sym c.fits.ensures ∙ c.if-not-fits.false) in
-    let key = option_copied c.args.key in
-    let m = kept c.args.memo.now in
-    let one = where_gone (shows m true) (of_tried known c.args.same (nodes key (block c.in-Attempt.first.value) (inside_of m))) in
-    let other = where_gone (shows m false) (of_tried known c.args.same (nodes key (block c.in-Attempt.second.value) (inside_of m))) in
-    rw c.in-Attempt.is
-    (parts_gone c.args.listed (walk_of c.args.children.now.items c.args.out.now) (walk_of c.put_part-in-Attempt.new.children.items c.put_part-in-Attempt.new.out)
-    (walk_of c.compare_lines-in-Attempt.new.children.items c.compare_lines-in-Attempt.new.out) _ _ _
-    (attempt_parts known (option_copied c.args.key) (block c.in-Attempt.first.value) (block c.in-Attempt.second.value)
-    (block c.in-Attempt.rest.value) (kept c.args.memo.now) c.args.same (chain (map changed c.args.inside.now)) (changed c.args.later.now) fit)
-    (parts_gone c.args.listed (walk_of c.args.children.now.items c.args.out.now) (walk_of c.put_part.new.children.items c.put_part.new.out)
-    (walk_of c.put_part-in-Attempt.new.children.items c.put_part-in-Attempt.new.out) one other (further one other) refl
-    (rw c.deref-in-Attempt.ensures at (c.in_ok-put_part-in-Attempt.ensures known k))
-    (rw c.deref-in-Attempt-2.ensures at (c.in_ok-put_part-in-Attempt-2.ensures known k)))
-    (rw (c.deref-in-Attempt-3.ensures, c.later_of-behind.ensures) at (c.in_ok-compare_lines-in-Attempt.ensures known k)))

@@ -3,17 +3,19 @@ use Rattle.std.proofs.lemmas.Bool.Decides.{nat_tests}
 use Rattle.std.specs.Option.{option_copied}
 use Rattle.sig_formula.specs.Trees.{tree}
 use Rattle.tpl_blocks.specs.Blocks.{block, waiting}
+use Rattle.tpl_model.specs.Lines.{attempt, choice, each, tag, text}
 use Rattle.tpl_drawn.specs.Marks.{children_in}
 use Rattle.tpl_drawn.specs.Addresses.{number_on}
 use Rattle.tpl_model.specs.KeptLines.Kept.{kept}
-use Rattle.tpl_drawn.specs.Shown.{inside_of, rows_of, shows}
-use Rattle.tpl_drawn.proofs.Placed.Equations.{of_blank, of_branch, of_either, of_element, of_line, of_loop, of_unread}
+use Rattle.tpl_drawn.specs.Heads.{table_of}
+use Rattle.tpl_drawn.specs.Shown.{inside_of, shows}
 use Rattle.tpl_drawn.proofs.Placed.Placed.{unfit_shown}
 use Rattle.tpl_model.specs.ShownNodes.Shapes.{child_of}
 use Rattle.tpl_model.specs.PageUpdates.PageMemos.{nodes, row_nodes}
-use Rattle.tpl_drawn.proofs.Compares.Rows.{all_left, left_of, none_left, one_left, past, row_shown, rows_gone, rows_held, staying_row}
-use Rattle.tpl_drawn.proofs.Compares.Siblings.{branch_hidden, branch_shown, no_more}
-use Rattle.tpl_drawn.proofs.Compares.Walks.{alone, attempt_stays, choice_stays, each_stays, tag_stays, text_stays}
+use Rattle.tpl_drawn.proofs.Compares.Rows.{all_left, left_of, none_left, one_left, past, rows_gone, staying_row}
+use Rattle.tpl_drawn.proofs.Shaped.Behind.{row_shown}
+use Rattle.tpl_drawn.proofs.Compares.Siblings.{branch_hidden, branch_shown, branches_stay, lines_stay, no_more}
+use Rattle.tpl_drawn.proofs.Compares.Walks.{alone}
 use Rattle.tpl_drawn.proofs.comparing.kept.+staying.Goals as goal
 
 -- ---- a branch
@@ -69,35 +71,6 @@ put_staying_rows-returns u c = λ known k t i.
     (map kept c.args.memos.now) [] (alone (map child_of c.loop-place.children.items)) (alone (map child_of c.args.children.now.items))
     (inr (ap (map kept) (past c.args.memos.now n (omega arith)))) c.loop-place.invariant known k t i)
 
--- ---- a loop
-
-pub put_staying_each-returns-in_ok-put_staying_rows-in-Loop : goal.put_staying_each-returns-in_ok-put_staying_rows-in-Loop
-put_staying_each-returns-in_ok-put_staying_rows-in-Loop u c = λ known k.
-    let l = rows_held c.in-Loop.heard.outcome (map kept c.in-Loop.memos.items) in
-    rw (c.rows_in.ensures, c.deref.ensures.value) at (c.in_ok-put_staying_rows-in-Loop.ensures known k l.0 0)
-    ∙ ap (λ z. map child_of c.args.children.now.items ++ children_in known (row_nodes (row_shown (block c.args.inner.now)) z))
-    (l.1 ∙ sym (ap rows_of (of_loop _ _ _ _ c.in-Loop.is)))
-
-pub put_staying_each-returns-in-Unread : goal.put_staying_each-returns-in-Unread
-put_staying_each-returns-in-Unread u c = λ known k.
-    no_more _ _ (ap (λ z. children_in known (row_nodes (row_shown (block c.args.inner.now)) (rows_of z))) (of_unread _ c.in-Unread.is))
-
-pub put_staying_each-returns-in-Blank : goal.put_staying_each-returns-in-Blank
-put_staying_each-returns-in-Blank u c = λ known k.
-    no_more _ _ (ap (λ z. children_in known (row_nodes (row_shown (block c.args.inner.now)) (rows_of z))) (of_blank _ c.in-Blank.is))
-
-pub put_staying_each-returns-in-Line : goal.put_staying_each-returns-in-Line
-put_staying_each-returns-in-Line u c = λ known k.
-    no_more _ _ (ap (λ z. children_in known (row_nodes (row_shown (block c.args.inner.now)) (rows_of z))) (of_line _ _ _ c.in-Line.is))
-
-pub put_staying_each-returns-in-Element : goal.put_staying_each-returns-in-Element
-put_staying_each-returns-in-Element u c = λ known k.
-    no_more _ _ (ap (λ z. children_in known (row_nodes (row_shown (block c.args.inner.now)) (rows_of z))) (of_element _ _ _ _ c.in-Element.is))
-
-pub put_staying_each-returns-in-Branch : goal.put_staying_each-returns-in-Branch
-put_staying_each-returns-in-Branch u c = λ known k.
-    no_more _ _ (ap (λ z. children_in known (row_nodes (row_shown (block c.args.inner.now)) (rows_of z))) (of_branch _ _ _ _ c.in-Branch.is))
-
 -- ---- lines
 
 pub put_staying-returns-then-not-fits : goal.put_staying-returns-then-not-fits
@@ -112,7 +85,7 @@ pub put_staying-returns-in_ok-put_staying-in-Text : goal.put_staying-returns-in_
 put_staying-returns-in_ok-put_staying-in-Text u c = λ known k.
     let fit = rw c.in-Text.is at (sym c.fits.ensures ∙ c.if-not-fits.false) in
     rw c.in-Text.is
-    (text_stays known (option_copied c.args.key) c.in-Text.line (tree c.in-Text.field-1) (block c.in-Text.rest.value) (kept c.args.memo.now)
+    (lines_stay known (option_copied c.args.key) (text c.in-Text.line (tree c.in-Text.field-1) (block c.in-Text.rest.value)) (kept c.args.memo.now)
     (map child_of c.args.children.now.items) (map child_of c.put_staying_text.new.children.items) (map child_of c.put_staying.new.children.items) fit
     (c.in_ok-put_staying_text-in-Text.ensures fit known k) (rw (c.deref.ensures, c.later_of.ensures) at (c.in_ok-put_staying-in-Text.ensures known k)))
 
@@ -120,43 +93,51 @@ pub put_staying-returns-in_ok-put_staying-in-Tag : goal.put_staying-returns-in_o
 put_staying-returns-in_ok-put_staying-in-Tag u c = λ known k.
     let fit = rw c.in-Tag.is at (sym c.fits.ensures ∙ c.if-not-fits.false) in
     rw c.in-Tag.is
-    (tag_stays known (option_copied c.args.key) c.in-Tag.line c.in-Tag.name (waiting c.in-Tag.attributes.items) (block c.in-Tag.inner.value)
-    (block c.in-Tag.rest.value) (kept c.args.memo.now) (map child_of c.args.children.now.items) (map child_of c.put_kept.new.children.items)
-    (map child_of c.put_staying-in-Tag.new.children.items) fit
+    (lines_stay known (option_copied c.args.key)
+    (tag c.in-Tag.line c.in-Tag.name (waiting c.in-Tag.attributes.items) (block c.in-Tag.inner.value) (block c.in-Tag.rest.value)) (kept c.args.memo.now)
+    (map child_of c.args.children.now.items) (map child_of c.put_kept.new.children.items) (map child_of c.put_staying-in-Tag.new.children.items) fit
     (rw (c.deref-in-Tag.ensures.value, c.deref-in-Tag-2.ensures) at (c.in_ok-put_kept-in-Tag.ensures.child known k))
     (rw (c.deref-in-Tag-3.ensures, c.later_of-in-Tag.ensures) at (c.in_ok-put_staying-in-Tag.ensures known k)))
 
 pub put_staying-returns-in_ok-put_staying-in-Choice : goal.put_staying-returns-in_ok-put_staying-in-Choice
 put_staying-returns-in_ok-put_staying-in-Choice u c = λ known k.
     let fit = rw c.in-Choice.is at (sym c.fits.ensures ∙ c.if-not-fits.false) in
+    let one = block c.in-Choice.one.value in
+    let other = block c.in-Choice.other.value in
+    let before = map child_of c.args.children.now.items in
+    let here = map child_of c.put_staying_branch-in-Choice.new.children.items in
     rw c.in-Choice.is
-    (choice_stays known (option_copied c.args.key) (tree c.in-Choice.field-0) (block c.in-Choice.one.value) (block c.in-Choice.other.value)
-    (block c.in-Choice.rest.value) (kept c.args.memo.now) (map child_of c.args.children.now.items) (map child_of c.put_staying_branch.new.children.items)
-    (map child_of c.put_staying_branch-in-Choice.new.children.items) (map child_of c.put_staying-in-Choice.new.children.items) fit
+    (lines_stay known (option_copied c.args.key) (choice (tree c.in-Choice.field-0) one other (block c.in-Choice.rest.value)) (kept c.args.memo.now)
+    before here (map child_of c.put_staying-in-Choice.new.children.items) fit
+    (branches_stay known (option_copied c.args.key) one other (kept c.args.memo.now) before (map child_of c.put_staying_branch.new.children.items) here
     (rw c.deref-in-Choice.ensures at (c.in_ok-put_staying_branch-in-Choice.ensures known k))
-    (rw c.deref-in-Choice-2.ensures at (c.in_ok-put_staying_branch-in-Choice-2.ensures known k))
+    (rw c.deref-in-Choice-2.ensures at (c.in_ok-put_staying_branch-in-Choice-2.ensures known k)))
     (rw (c.deref-in-Choice-3.ensures, c.later_of-in-Choice.ensures) at (c.in_ok-put_staying-in-Choice.ensures known k)))
 
 pub put_staying-returns-in_ok-put_staying-in-Each : goal.put_staying-returns-in_ok-put_staying-in-Each
 put_staying-returns-in_ok-put_staying-in-Each u c = λ known k.
     let fit = rw c.in-Each.is at (sym c.fits.ensures ∙ c.if-not-fits.false) in
+    let inner = block c.in-Each.inner.value in
+    let m = kept c.args.memo.now in
+    let before = map child_of c.args.children.now.items in
     rw c.in-Each.is
-    (each_stays known (option_copied c.args.key) (tree c.in-Each.field-0) (block c.in-Each.inner.value) (block c.in-Each.rest.value) (kept c.args.memo.now)
-    (map child_of c.args.children.now.items) (map child_of c.put_staying_each.new.children.items) (map child_of c.put_staying-in-Each.new.children.items) fit
-    (rw c.deref-in-Each.ensures at (c.in_ok-put_staying_each-in-Each.ensures known k))
+    (lines_stay known (option_copied c.args.key) (each (tree c.in-Each.field-0) inner (block c.in-Each.rest.value)) m
+    before (map child_of c.put_staying_rows.new.children.items) (map child_of c.put_staying-in-Each.new.children.items) fit
+    (rw c.deref-in-Each.ensures at (c.in_ok-put_staying_rows-in-Each.ensures known k (table_of m) 0)
+    ∙ ap (λ z. before ++ children_in known (row_nodes (row_shown inner) z)) c.loop_of.ensures)
     (rw (c.deref-in-Each-2.ensures, c.later_of-in-Each.ensures) at (c.in_ok-put_staying-in-Each.ensures known k)))
-
-pub put_staying_each-returns-in-Either : goal.put_staying_each-returns-in-Either
-put_staying_each-returns-in-Either u c = λ known k.
-    no_more _ _ (ap (λ z. children_in known (row_nodes (row_shown (block c.args.inner.now)) (rows_of z))) (of_either _ _ _ _ c.in-Either.is))
 
 pub put_staying-returns-in_ok-put_staying-in-Attempt : goal.put_staying-returns-in_ok-put_staying-in-Attempt
 put_staying-returns-in_ok-put_staying-in-Attempt u c = λ known k.
     let fit = rw c.in-Attempt.is at (sym c.fits.ensures ∙ c.if-not-fits.false) in
+    let first = block c.in-Attempt.first.value in
+    let second = block c.in-Attempt.second.value in
+    let before = map child_of c.args.children.now.items in
+    let here = map child_of c.put_staying_branch-in-Attempt-2.new.children.items in
     rw c.in-Attempt.is
-    (attempt_stays known (option_copied c.args.key) (block c.in-Attempt.first.value) (block c.in-Attempt.second.value)
-    (block c.in-Attempt.rest.value) (kept c.args.memo.now) (map child_of c.args.children.now.items) (map child_of c.put_staying_branch-in-Attempt.new.children.items)
-    (map child_of c.put_staying_branch-in-Attempt-2.new.children.items) (map child_of c.put_staying-in-Attempt.new.children.items) fit
+    (lines_stay known (option_copied c.args.key) (attempt first second (block c.in-Attempt.rest.value)) (kept c.args.memo.now)
+    before here (map child_of c.put_staying-in-Attempt.new.children.items) fit
+    (branches_stay known (option_copied c.args.key) first second (kept c.args.memo.now) before (map child_of c.put_staying_branch-in-Attempt.new.children.items) here
     (rw c.deref-in-Attempt.ensures at (c.in_ok-put_staying_branch-in-Attempt.ensures known k))
-    (rw c.deref-in-Attempt-2.ensures at (c.in_ok-put_staying_branch-in-Attempt-2.ensures known k))
+    (rw c.deref-in-Attempt-2.ensures at (c.in_ok-put_staying_branch-in-Attempt-2.ensures known k)))
     (rw (c.deref-in-Attempt-3.ensures, c.later_of-in-Attempt.ensures) at (c.in_ok-put_staying-in-Attempt.ensures known k)))
