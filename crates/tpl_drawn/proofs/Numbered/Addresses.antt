@@ -5,10 +5,11 @@ use Rattle.page_model.specs.Forest.{Forest, none, node, keys, label_in, on, tall
 use Rattle.page_model.specs.Labels.{Root, Look}
 use Rattle.page_model.specs.Pages.{by_number}
 use Rattle.page_model.proofs.Shared.{on_tally}
-use Rattle.tpl_model.specs.ShownNodes.Addresses.{address_of, same_address}
+use Rattle.indexmap.specs.IndexMap.{IndexMap}
+use Rattle.tpl_model.specs.ShownNodes.Addresses.{address_of, same_address, same_address-Decides}
 use Rattle.tpl_model.specs.declared.shown.Address.{Address}
 use Rattle.tpl_model.proofs.Shared.{same_number}
-use Rattle.tpl_drawn.specs.Addresses.{AreNumbersOf, noted, noted_from}
+use Rattle.tpl_drawn.specs.Addresses.{AreNumbersOf, noted, noted_from, number_in}
 
 -- ---- one after the other
 
@@ -168,3 +169,9 @@ are_numbers xs ms t root number e once keys_are all_are a =
     let numbers_are : ns ≡ keys (by_number t) = ap (drop 1) all_are in
     e a ∙ (noted_code xs ns (λ b. None) (λ j. None) (λ b. refl) a
     ∙ ((λ i. put_all (keys_are i) (numbers_are i) (λ j. None) (address_of a)) ∙ forest_noted t (λ j. None) (address_of a) (once (address_of a))))
+
+-- ---- one address
+
+-- the same address has the same number
+pub number_same : {S : Type 0} (all : IndexMap Address ℕ S) (a b : Address) (n : ℕ) → same_address a b ≡ true → number_in all a ≡ Some n → number_in all b ≡ Some n
+number_same all a b n e h = ap (number_in all) (sym ((same_address-Decides a b).0 e)) ∙ h

@@ -88,7 +88,8 @@ pub fn put_made(
     let mut shown = Vec::new(alloc);
     put_shown(alloc, key, lines, memo, &mut shown)?;
     let mut marks = Vec::new(alloc);
-    let more = mark_all(alloc, shown, page, &mut marks)?;
+    let mut near = 0;
+    let more = mark_all(alloc, shown, page, &mut near, &mut marks)?;
     put_children(listed, more, children)?;
     put_marks(alloc, marks, out)?;
     Ok(())
@@ -184,7 +185,8 @@ pub fn put_text_again(
     }
     let mut shown = Vec::new(alloc);
     put_text(alloc, line, key, memo, &mut shown)?;
-    let more = mark_all(alloc, shown, page, &mut out.restated)?;
+    let mut near = 0;
+    let more = mark_all(alloc, shown, page, &mut near, &mut out.restated)?;
     put_children(listed, more, children)?;
     Ok(())
 }

@@ -10,12 +10,13 @@ use std::alloc::Global;
 use tpl_model::{Child, Mark, Shown};
 
 // A node as a child of one that stands on the page. Where it stands there too, it is marked, and so are all below it that do; what stands below
-// a new node is new.
+// a new node is new. Nodes are mostly noted in document order, so each is looked for behind the one before it.
 #[cycle(marking)]
 fn mark_node(
     alloc: Global,
     node: Shown,
     page: &PageNodes,
+    near: &mut usize,
     marks: &mut Vec<Mark>,
 ) -> Result<Child, NoMemory>
     ensures child { (known : ℕ → Option ℕ) → Knows (number_on page.now) known →
@@ -28,14 +29,14 @@ fn mark_node(
         look,
         children,
     } = node;
-    let Some(number) = page.number(&address) else {
+    let Some(number) = page.number_near(near, &address) else {
         return Ok(Child::New(Shown {
             address,
             look,
             children,
         }));
     };
-    let children = mark_all(alloc, children, page, marks)?;
+    let children = mark_all(alloc, children, page, near, marks)?;
     marks.push(Mark {
         number,
         look: Some(look),
@@ -54,6 +55,7 @@ pub(crate) fn mark_all(
     alloc: Global,
     nodes: Vec<Shown>,
     page: &PageNodes,
+    near: &mut usize,
     marks: &mut Vec<Mark>,
 ) -> Result<Vec<Child>, NoMemory>
     ensures children { (known : ℕ → Option ℕ) → Knows (number_on page.now) known →
@@ -61,9 +63,9 @@ pub(crate) fn mark_all(
     ensures marks { (known : ℕ → Option ℕ) → Knows (number_on page.now) known →
         OnOk result (map mark_of marks.new.items ≡ map mark_of marks.old.items ++ marks_in known (all_shown nodes.items)) }
 {
-    let mut children = Vec::new(alloc);
+    let mut children = Vec::with_capacity(alloc, nodes.len())?;
     for node in nodes {
-        let child = mark_node(alloc, node, page, marks)?;
+        let child = mark_node(alloc, node, page, near, marks)?;
         children.push(child)?;
     }
     Ok(children)

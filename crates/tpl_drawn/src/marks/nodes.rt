@@ -34,6 +34,14 @@ impl PageNodes {
         self.tree.child_count(number)?;
         Some(number)
     }
+    /// The same number, looked for at a place of those that were noted first: that of an address noted behind it is looked for at the next place.
+    pub(crate) fn number_near(&self, near: &mut usize, address: &Address) -> Option<u64>
+        ensures { result ≡ number_on self.now address.now }
+    {
+        let noted = self.numbers.number_near(near, address)?;
+        self.tree.child_count(noted)?;
+        Some(noted)
+    }
     /// The line of the template from which a node below the root comes, counted from 1; none where the page has no such node.
     pub fn line(&self, number: u64) -> Option<usize>
         ensures { result ≡ (if below_root number self.now.tree then line_at self.now.numbers number else None) }

@@ -18,7 +18,7 @@ mark_node-returns-clause-child t c = λ known kn.
     let node = out-Shown c.args.node in
     (is_there (number_on c.args.page.now) node.address c.in-Some.number (address_of node.address) (look_of node.look) (all_shown node.children.items)
     (shown_tree c.args.node) (stays c.in-Some.number) (map child_of c.in_ok-children.children.items) (map mark_of c.args.marks.now.items)
-    (map mark_of c.mark_all.new.marks.items) (map mark_of c.push.new.self.items) (tree_is c.args.node) (sym c.number.ensures ∙ c.in-Some.is)
+    (map mark_of c.mark_all.new.marks.items) (map mark_of c.push.new.self.items) (tree_is c.args.node) (sym c.number_near.ensures ∙ c.in-Some.is)
     (λ known k. k node.address) refl (record { children = c.in_ok-children.ensures.children; marks = c.in_ok-children.ensures.marks })
     (ap (map mark_of) c.in_ok-push.ensures.items ∙ map-append mark_of c.mark_all.new.marks.items _)).child known kn
 
@@ -27,7 +27,7 @@ mark_node-returns-clause-marks t c = λ known kn.
     let node = out-Shown c.args.node in
     (is_there (number_on c.args.page.now) node.address c.in-Some.number (address_of node.address) (look_of node.look) (all_shown node.children.items)
     (shown_tree c.args.node) (stays c.in-Some.number) (map child_of c.in_ok-children.children.items) (map mark_of c.args.marks.now.items)
-    (map mark_of c.mark_all.new.marks.items) (map mark_of c.push.new.self.items) (tree_is c.args.node) (sym c.number.ensures ∙ c.in-Some.is)
+    (map mark_of c.mark_all.new.marks.items) (map mark_of c.push.new.self.items) (tree_is c.args.node) (sym c.number_near.ensures ∙ c.in-Some.is)
     (λ known k. k node.address) refl (record { children = c.in_ok-children.ensures.children; marks = c.in_ok-children.ensures.marks })
     (ap (map mark_of) c.in_ok-push.ensures.items ∙ map-append mark_of c.mark_all.new.marks.items _)).marks known kn
 
@@ -36,7 +36,7 @@ mark_node-returns-in_default-clause-child t c = λ known kn.
     let node = out-Shown c.args.node in
     let again = roll-Shown (record { address = node.address; look = node.look; children = node.children }) in
     (is_new (number_on c.args.page.now) node.address (address_of node.address) (look_of node.look) (all_shown node.children.items) (shown_tree c.args.node)
-    (comes (shown_tree again)) (map mark_of c.args.marks.now.items) (tree_is c.args.node) (sym c.number.ensures ∙ c.in_default.is) (λ known k. k node.address)
+    (comes (shown_tree again)) (map mark_of c.args.marks.now.items) (tree_is c.args.node) (sym c.number_near.ensures ∙ c.in_default.is) (λ known k. k node.address)
     (ap comes (tree_shown node.address node.look node.children ∙ sym (tree_is c.args.node)))).child known kn
 
 pub mark_node-returns-in_default-clause-marks : goal.mark_node-returns-in_default-clause-marks
@@ -44,15 +44,15 @@ mark_node-returns-in_default-clause-marks t c = λ known kn.
     let node = out-Shown c.args.node in
     let again = roll-Shown (record { address = node.address; look = node.look; children = node.children }) in
     (is_new (number_on c.args.page.now) node.address (address_of node.address) (look_of node.look) (all_shown node.children.items) (shown_tree c.args.node)
-    (comes (shown_tree again)) (map mark_of c.args.marks.now.items) (tree_is c.args.node) (sym c.number.ensures ∙ c.in_default.is) (λ known k. k node.address)
+    (comes (shown_tree again)) (map mark_of c.args.marks.now.items) (tree_is c.args.node) (sym c.number_near.ensures ∙ c.in_default.is) (λ known k. k node.address)
     (ap comes (tree_shown node.address node.look node.children ∙ sym (tree_is c.args.node)))).marks known kn
 
 -- ---- nodes one after the other
 
 pub mark_all-loop-node-init : goal.mark_all-loop-node-init
 mark_all-loop-node-init t c =
-    none_marked (number_on c.args.page.now) (all_shown c.into_iter-node-iterator.result.rest.items) (map child_of c.new-children.result.items)
-    (map mark_of c.args.marks.now.items) (map mark_of c.args.marks.now.items) (ap (map child_of) c.new-children.ensures.items) refl
+    none_marked (number_on c.args.page.now) (all_shown c.into_iter-node-iterator.result.rest.items) (map child_of c.in_ok-children.children.items)
+    (map mark_of c.args.marks.now.items) (map mark_of c.args.marks.now.items) (ap (map child_of) c.in_ok-children.ensures.items) refl
 
 pub mark_all-loop-node-preserved : goal.mark_all-loop-node-preserved
 mark_all-loop-node-preserved t c =
