@@ -5,6 +5,7 @@ mod Ends
 mod Glanced
 mod Joined
 mod Loops
+mod Stills
 mod Alone
 mod Nearby
 pub mod Shared

@@ -5,6 +5,7 @@ mod flushes;
 mod glance;
 mod near;
 mod once;
+mod quiet;
 mod run;
 mod turns;
 

@@ -7,8 +7,8 @@ ghost use Rattle.effect_tables.specs.Placed.{effect_of};
 use effect_tables::{Effect, Tables, effect_at};
 use sig_base::EffectId;
 
-// The effect at a place, where it has this number.
-fn effect_here(effects: &[Effect], place: usize, id: EffectId) -> Option<&Effect>
+/// The effect at a place, where it has this number.
+pub(crate) fn effect_here(effects: &[Effect], place: usize, id: EffectId) -> Option<&Effect>
     requires { AreRising 0 effects.now }
     ensures { IfSome result (λ x. effect_at id (map effect_of effects.now) ≡ Some (effect_of x.now)) }
 {

@@ -12,6 +12,7 @@ ghost use Rattle.effect_turns.specs.Runs.{CanRun, Runs, Spends};
 ghost use Rattle.effect_tables.specs.Visits.{is_due, some_ran, visit, visit_all};
 
 use crate::glance::glance;
+use crate::quiet::is_quiet;
 use crate::run::run_effect;
 use effect_tables::Effect;
 use effect_world::World;
@@ -24,14 +25,15 @@ use std::alloc::Global;
 pub(crate) fn numbers(alloc: Global, effects: &[Effect]) -> Result<Vec<EffectId>, NoMemory>
     ensures { IfOk result (λ ids. ids.items ≡ effect_numbers (map effect_of effects.now)) }
 {
-    let mut ids = Vec::new(alloc);
+    let mut ids = Vec::with_capacity(alloc, effects.len())?;
     for effect in effects {
         ids.push(effect.id)?;
     }
     Ok(ids)
 }
 
-// Looks at the effect of a number, which is looked for at a place first, and runs it where it lives and is due: whether it was.
+// Looks at the effect of a number, which is looked for at a place first, and runs it where it lives and is due: whether it was. One that has
+// read cells alone that have their values still needs no look.
 fn visit(
     world: &mut World,
     shelf: &mut Shelf,
@@ -52,6 +54,9 @@ fn visit(
         (scene world.old (⟦<Shelf as Lent>⟧.asked shelf.old) events.old.items) (scene world.new (⟦<Shelf as Lent>⟧.asked shelf.new) events.new.items)) }
     ensures counted { OnOk result (⟦<Shelf as Lent>⟧.counted shelf.new) }
 {
+    if is_quiet(world, place, id) {
+        return Ok(false);
+    }
     let due = glance(world, shelf, id, place, events)?;
     if !due {
         return Ok(false);

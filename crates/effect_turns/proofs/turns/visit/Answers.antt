@@ -1,7 +1,21 @@
 use Rattle.std.proofs.Common.{[], map}
-use Rattle.effect_turns.proofs.Carried.{can_then, spends_then}
+use Rattle.effect_turns.proofs.Carried.{can_then, spends_none, spends_then}
 use Rattle.effect_turns.proofs.Loops.{due_found, due_passed, visit_found, visit_passed}
+use Rattle.effect_turns.proofs.Stills.{quiet_due, quiet_visit}
 use Rattle.effect_turns.proofs.turns.visit.Goals as goal
+
+pub is_quiet-requires : goal.is_quiet-requires
+is_quiet-requires g c = c.requires.can.agrees.owned.tables
+
+pub returns-then-is_quiet-clause-due : goal.returns-then-is_quiet-clause-due
+returns-then-is_quiet-clause-due g c = λ hosts all sound.
+    quiet_due (map (λ r. r.slack) c.args.rules.now) hosts _ c.args.world.now c.args.id sound (c.is_quiet.ensures c.if-is_quiet.true)
+
+pub returns-then-is_quiet-clause-done : goal.returns-then-is_quiet-clause-done
+returns-then-is_quiet-clause-done g c = quiet_visit _ _ _ c.args.id c.requires.can.agrees (c.is_quiet.ensures c.if-is_quiet.true)
+
+pub returns-then-is_quiet-clause-spent : goal.returns-then-is_quiet-clause-spent
+returns-then-is_quiet-clause-spent g c = spends_none _
 
 pub returns-then-not-due-clause-due : goal.returns-then-not-due-clause-due
 returns-then-not-due-clause-due g c = λ hosts all sound. due_passed _ _ c.if-not-due.true (c.in_ok-due.ensures.due hosts (map (λ r. r.slack) c.args.rules.now) all sound)
