@@ -191,7 +191,7 @@ fn unless_over(
 fn places(alloc: Global, outcome: &Outcome) -> Result<Vec<Option<RowRef>>, NoMemory>
     ensures { IfOk result (λ rows. rows.items ≡ places_from (table_in outcome.now) 0 (length (table_in outcome.now).rows)) }
 {
-    let mut rows = Vec::new(alloc);
+    let mut rows = Vec::with_capacity(alloc, row_count(outcome))?;
     for place in 0..row_count(outcome) {
         let here = row_at(outcome, place)?;
         rows.push(Some(here))?;

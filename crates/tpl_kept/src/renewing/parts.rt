@@ -265,6 +265,7 @@ pub(crate) fn taken_up(
     ensures later_changes { IfOk result (λ t. t.later_changes.items ≡ []) }
 {
     let places = places_inside(alloc, &head, false, row)?;
+    let inside_changes = Vec::with_capacity(alloc, places.len())?;
     let inside = inside_was(alloc, heard, was, &head, inside)?;
     let later = Round::alone(alloc, Box::into_inner(later))?;
     let first = Box::new(alloc, First::Line(Box::into_inner(head)))?;
@@ -275,7 +276,7 @@ pub(crate) fn taken_up(
         places,
         inside: inside.0,
         later,
-        inside_changes: Vec::new(alloc),
+        inside_changes,
         later_changes: Vec::new(alloc),
     })
 }

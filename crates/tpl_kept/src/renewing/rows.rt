@@ -22,40 +22,71 @@ use std::alloc::Global;
 use std::mem;
 use tpl_model::PageMemo;
 
-// Whether each row has the key of the row that stood at its place, as far as one stood there: then its key stood at no other place.
-fn keys_stand(was: &[Row], rows: &[Row]) -> bool {
-    for (place, row) in rows.iter().enumerate() {
-        let Some(old) = was.get(place) else {
-            return true;
-        };
-        let same = old.key == row.key;
-        if !same {
-            return false;
-        }
-    }
-    true
+// How often rows of before are gone over for a key, before a table of them is made.
+const LOOKS: usize = 8;
+
+// Where rows of before are looked for by their keys, for rows one after the other: first behind the one that was found last, then among all of them as
+// often as there are looks left, and at last in a table.
+#[derive(Drop)]
+struct Search {
+    behind: usize,
+    looks: usize,
+    places: Option<IndexMap<Text, usize>>,
 }
 
-// The places of rows by their keys; none where no row is found but at its own place.
-fn places_among(alloc: Global, was: &Rows, rows: &Rows) -> Result<IndexMap<Text, usize>, NoMemory> {
-    let mut places = IndexMap::new(alloc);
-    if keys_stand(was.rows(), rows.rows()) {
-        return Ok(places);
+// Whether a row of this key stands at a place.
+fn has_key(rows: &[Row], place: usize, key: &Text) -> bool {
+    match rows.get(place) {
+        None => false,
+        Some(row) => row.key == *key,
     }
-    for (place, row) in was.rows().iter().enumerate() {
+}
+
+// The place of the row of a key, from a place on or before it.
+fn place_around(rows: &[Row], from: usize, key: &Text) -> Option<usize> {
+    for place in from..rows.len() {
+        if has_key(rows, place, key) {
+            return Some(place);
+        }
+    }
+    for place in 0..from {
+        if has_key(rows, place, key) {
+            return Some(place);
+        }
+    }
+    None
+}
+
+// The places of rows by their keys.
+fn table_of(alloc: Global, rows: &[Row]) -> Result<IndexMap<Text, usize>, NoMemory> {
+    let mut places = IndexMap::new(alloc);
+    for (place, row) in rows.iter().enumerate() {
         places.insert(row.key.copy()?, place)?;
     }
     Ok(places)
 }
 
-// So it is of the rows that an outcome was, for those that it is now.
-fn places(alloc: Global, was: &Outcome, next: &Outcome) -> Result<IndexMap<Text, usize>, NoMemory> {
-    match (was, next) {
-        (Outcome::Good(Value::Rows(was)), Outcome::Good(Value::Rows(rows))) => {
-            let places = places_among(alloc, was, rows)?;
-            Ok(places)
-        }
-        _ => Ok(IndexMap::new(alloc)),
+// The place of the row of before of a key.
+fn place_by_key(
+    alloc: Global,
+    search: &mut Search,
+    rows: &[Row],
+    key: &Text,
+) -> Result<Option<usize>, NoMemory> {
+    if has_key(rows, search.behind, key) {
+        return Ok(Some(search.behind));
+    }
+    if search.looks > 0 {
+        search.looks -= 1;
+        return Ok(place_around(rows, search.behind, key));
+    }
+    if search.places.is_none() {
+        let places = table_of(alloc, rows)?;
+        search.places = Some(places);
+    }
+    match &search.places {
+        None => Ok(None),
+        Some(places) => Ok(places.get(key).copied()),
     }
 }
 
@@ -81,47 +112,51 @@ fn alike(fields: bool, was: &Rows, at: usize, rows: &Rows, place: usize) -> bool
     fields && at < was.len() && was.row(at) == rows.row(place)
 }
 
-// The place of a row of the same key and values, which is looked for at the same place first.
+// The place of a row of the same key and values.
 fn same_place(
+    alloc: Global,
     fields: bool,
-    places: &IndexMap<Text, usize>,
+    search: &mut Search,
     was: &Rows,
     rows: &Rows,
     place: usize,
-) -> Option<usize>
+) -> Result<Option<usize>, NoMemory>
     requires fields { fields ≡ true → pointwise bytes_eq was.now.fields rows.now.fields ≡ true }
     requires place { place < length rows.now.rows }
-    ensures inside { IfSome result (λ at. at < length was.now.rows) }
-    ensures same { IfSome result (λ at. same_here (record { rows = was.now; place = at }) (record { rows = rows.now; place = place }) ≡ true) }
+    ensures inside { IfOk result (λ o. IfSome o (λ at. at < length was.now.rows)) }
+    ensures same { IfOk result (λ o. IfSome o (λ at. same_here (record { rows = was.now; place = at }) (record { rows = rows.now; place = place }) ≡ true)) }
 {
-    if alike(fields, was, place, rows, place) {
-        return Some(place);
-    }
-    let at = *places.get(&rows.row(place).key)?;
+    let found = place_by_key(alloc, search, was.rows(), &rows.row(place).key)?;
+    let Some(at) = found else {
+        return Ok(None);
+    };
+    search.behind = at.saturating_add(1);
     if alike(fields, was, at, rows, place) {
-        return Some(at);
+        return Ok(Some(at));
     }
-    None
+    Ok(None)
 }
 
 // The place among the rows of before of one that has the key and the values of this row.
 fn old_place(
+    alloc: Global,
     fields: bool,
-    places: &IndexMap<Text, usize>,
+    search: &mut Search,
     was: &Outcome,
     next: &Outcome,
     place: usize,
-) -> Option<usize>
+) -> Result<Option<usize>, NoMemory>
     requires fields { fields ≡ true → pointwise bytes_eq (table_in was.now).fields (table_in next.now).fields ≡ true }
     requires place { place < length (table_in next.now).rows }
-    ensures inside { IfSome result (λ at. at < length (table_in was.now).rows) }
-    ensures same { IfSome result (λ at. same_here (record { rows = table_in was.now; place = at }) (record { rows = table_in next.now; place = place }) ≡ true) }
+    ensures inside { IfOk result (λ o. IfSome o (λ at. at < length (table_in was.now).rows)) }
+    ensures same { IfOk result (λ o. IfSome o (λ at. same_here (record { rows = table_in was.now; place = at }) (record { rows = table_in next.now; place = place }) ≡ true)) }
 {
     match (was, next) {
         (Outcome::Good(Value::Rows(was)), Outcome::Good(Value::Rows(rows))) => {
-            same_place(fields, places, was, rows, place)
+            let at = same_place(alloc, fields, search, was, rows, place)?;
+            Ok(at)
         }
-        _ => None,
+        _ => Ok(None),
     }
 }
 
@@ -150,12 +185,16 @@ fn rows_found(
     ensures serve { IfOk result (λ ms. ServeRows (table_in was.now) (table_in next.now) (map kept memos.items) (map kept ms.items)) }
     ensures among { IfOk result (λ ms. AreAmong (table_in was.now) (places_from (table_in next.now) 0 (length (table_in next.now).rows)) (map kept ms.items)) }
 {
-    let places = places(alloc, was, next)?;
+    let mut search = Search {
+        behind: 0,
+        looks: LOOKS,
+        places: None,
+    };
     let fields = same_fields(was, next);
     let mut left = memos;
     let mut taken = Vec::with_capacity(alloc, row_count(next))?;
     for place in 0..row_count(next) {
-        let at = old_place(fields, &places, was, next, place);
+        let at = old_place(alloc, fields, &mut search, was, next, place)?;
         let one = take_row(&mut left, at);
         taken.push(one)?;
     }

@@ -13,11 +13,11 @@ loop-place-preserved c =
       count = one_count kept c.loop-place.taken.items c.push.new.self.items c.take_row-one.result c.loop-place.place put v.count;
       left = λ b links before s. (c.take_row-one.ensures.takes b links (table_in c.args.was.now) before (v.left b links before s)).left;
       taken = λ b links before s.
-          row_serves b links (table_in c.args.was.now) (table_in c.args.next.now) before c.old_place-at.result c.loop-place.place (kept c.take_row-one.result)
-          (map kept c.take_row-one.new.old.items) (map kept c.loop-place.taken.items) (map kept c.push.new.self.items) c.old_place-at.ensures.inside
-          c.old_place-at.ensures.same (c.take_row-one.ensures.takes b links (table_in c.args.was.now) before (v.left b links before s)) v.count
+          row_serves b links (table_in c.args.was.now) (table_in c.args.next.now) before c.in_ok-at.at c.loop-place.place (kept c.take_row-one.result)
+          (map kept c.take_row-one.new.old.items) (map kept c.loop-place.taken.items) (map kept c.push.new.self.items) c.in_ok-at.ensures.inside
+          c.in_ok-at.ensures.same (c.take_row-one.ensures.takes b links (table_in c.args.was.now) before (v.left b links before s)) v.count
           (mapped_put kept c.loop-place.taken.items c.push.new.self.items c.take_row-one.result put) (v.taken b links before s);
-      among = row_among (table_in c.args.was.now) (table_in c.args.next.now) c.old_place-at.result c.loop-place.place (kept c.take_row-one.result)
-          (map kept c.loop-place.taken.items) (map kept c.push.new.self.items) c.old_place-at.ensures.inside c.old_place-at.ensures.same
+      among = row_among (table_in c.args.was.now) (table_in c.args.next.now) c.in_ok-at.at c.loop-place.place (kept c.take_row-one.result)
+          (map kept c.loop-place.taken.items) (map kept c.push.new.self.items) c.in_ok-at.ensures.inside c.in_ok-at.ensures.same
           c.take_row-one.ensures.nothing v.count (mapped_put kept c.loop-place.taken.items c.push.new.self.items c.take_row-one.result put) v.among;
     }

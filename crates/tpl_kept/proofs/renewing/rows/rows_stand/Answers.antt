@@ -1,4 +1,4 @@
-use Rattle.std.proofs.Common.{◌≡◌, ◌≤◌, length, map, sym, subst, arith}
+use Rattle.std.proofs.Common.{◌≡◌, length, map, sym, subst, arith}
 use Rattle.tpl_model.specs.KeptLines.Kept.{kept}
 use Rattle.tpl_kept.specs.Turns.{RowsStand, SlotsStay}
 use Rattle.tpl_kept.proofs.Renewals.RowMemos.{keys_end}
