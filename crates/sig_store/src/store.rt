@@ -108,6 +108,15 @@ fn likely_place<T>(hints: &[usize], held: &Slab<Held<T>>, number: u128) -> Optio
     }
 }
 
+// Where the value of a number stands, by the index. It is seldom asked, so what looks elsewhere first stays short.
+#[cold]
+#[inline(never)]
+fn indexed_place(places: &IndexMap<u128, usize>, number: u128) -> Option<usize>
+    ensures { result ≡ get nat_eq places.now number }
+{
+    places.get(&number).copied()
+}
+
 // Where the value of a number stands.
 fn place_of<T>(
     places: &IndexMap<u128, usize>,
@@ -120,7 +129,7 @@ fn place_of<T>(
 {
     match likely_place(hints, held, number) {
         Some(place) => Some(place),
-        None => places.get(&number).copied(),
+        None => indexed_place(places, number),
     }
 }
 
