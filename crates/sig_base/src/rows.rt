@@ -1,5 +1,5 @@
 // Rows under distinct keys, and the lists of scalars in them.
-ghost use Rattle.std.specs.Prelude.{◌≡◌, length, ◌<◌, IfOk, Some};
+ghost use Rattle.std.specs.Prelude.{◌≡◌, length, ◌<◌, IfOk, Some, true};
 ghost use Rattle.std.specs.List.{slice_get};
 ghost use Rattle.std.specs.Cmp.{decided, partial_equiv_from_equiv};
 ghost use Rattle.sig_base.specs.Tables.{AreRows, Table, marked, same_row, same_table};
@@ -100,11 +100,17 @@ impl Eq for Row {
 pub struct Rows {
     fields: Rc<Vec<Name>>,
     rows: Rc<Vec<Row>>,
+    // where a comparison looks first: the place of the row that was changed last, if there was one
+    changed: usize,
 }
 
 impl Drop for Rows {
     fn drop(self) {
-        let Rows { fields: _, rows: _ } = self;
+        let Rows {
+            fields: _,
+            rows: _,
+            changed: _,
+        } = self;
     }
 }
 
@@ -129,6 +135,7 @@ impl Rows {
         Ok(Rows {
             fields: Rc::new(alloc, fields)?,
             rows: Rc::new(alloc, rows)?,
+            changed: 0,
         })
     }
 
@@ -170,6 +177,7 @@ impl Rows {
         Ok(Rows {
             fields: self.fields.clone()?,
             rows: Rc::new(alloc, rows)?,
+            changed: self.changed,
         })
     }
 
@@ -190,8 +198,36 @@ impl Rows {
         Ok(Rows {
             fields: self.fields.clone()?,
             rows: self.rows.clone()?,
+            changed: self.changed,
         })
     }
+
+    /// Notes the place of the row in which they differ from those of before: where they are compared with others, it is looked at first.
+    pub fn note_changed(&mut self, place: usize)
+        ensures { self.new ≡ self.old }
+    {
+        self.changed = place;
+    }
+}
+
+// Whether rows are known to differ from others, by how many there are or by those at a place.
+fn differ_at(rows: &Rows, others: &Rows, place: usize) -> bool
+    ensures { result ≡ true → rows.now ≡ others.now → ⊥ }
+{
+    if rows.len() != others.len() {
+        return true;
+    }
+    if place >= rows.len() {
+        return false;
+    }
+    rows.row(place) != others.row(place)
+}
+
+// Whether rows are known to differ from others without a look at all of them.
+fn differ(rows: &Rows, others: &Rows) -> bool
+    ensures { result ≡ true → rows.now ≡ others.now → ⊥ }
+{
+    differ_at(rows, others, others.changed) || differ_at(rows, others, rows.changed)
 }
 
 impl PartialEq for Rows {
@@ -200,6 +236,9 @@ impl PartialEq for Rows {
     ghost laws = { partial_equiv_from_equiv (decided same_table same_table-Decides) };
 
     fn eq(&self, other: &Rows) -> bool {
+        if differ(self, other) {
+            return false;
+        }
         self.fields.as_slice() == other.fields.as_slice()
             && self.rows.as_slice() == other.rows.as_slice()
     }
