@@ -10,8 +10,8 @@ use Rattle.std.proofs.lemmas.Map.Keys.{IsDistinct-head, IsDistinct-tail}
 use Rattle.std.proofs.lemmas.Slice.Eq.{bytes_eq-Decides}
 use Rattle.sig_base.specs.declared.rows.Row.{Row}
 use Rattle.sig_base.specs.Tables.{keys_of, marked}
-use Rattle.sig_rows.specs.Edits.{field_place, has_key, row_of, without}
-use Rattle.sig_rows.specs.Found.{IsFieldPlace, IsRowOf}
+use Rattle.sig_rows.specs.Edits.{has_key, row_of, without}
+use Rattle.sig_rows.specs.Found.{IsFirstPlace, IsRowOf}
 
 -- the key of a row that has it
 pub key_is : (key : List ℕ) (r : Row) → has_key key r ≡ true → r.key ≡ key
@@ -41,16 +41,28 @@ any_below p (x ∷ xs) = elim (cases_Bool (p x)) [
   | inr e ↦ rw e (any_below p xs ∙ grind (arith, nat_tests))
 ]
 
--- what the place of a field says
-pub field_found : (name : List ℕ) (fields : List (List ℕ)) (found : Option ℕ) → found ≡ position (λ f. bytes_eq f name) fields
-    → MatchOption found (list_any (λ f. bytes_eq f name) fields ≡ false) (IsFieldPlace name fields)
-field_found name fields found e =
-    let P : Option ℕ → Type 0 = λ o. MatchOption o (list_any (λ (f : List ℕ). bytes_eq f name) fields ≡ false) (IsFieldPlace name fields) in
-    let there = any_below (λ (f : List ℕ). bytes_eq f name) fields in
-    rw e (elim (cases_Bool (nat_lt (field_place name fields) (length fields))) [
+-- what the first place for which a test holds says
+pub first_found : {A : Type 0} (test : A → Bool) (xs : List A) (found : Option ℕ) → found ≡ position test xs
+    → MatchOption found (list_any test xs ≡ false) (IsFirstPlace test xs)
+first_found test xs found e =
+    let there = any_below test xs in
+    rw e (elim (cases_Bool (nat_lt (position_or_len test xs) (length xs))) [
       | inl lt ↦ rw lt (record { there = there ∙ lt; within = ltb-true _ _ lt; is = refl })
       | inr ge ↦ rw ge (there ∙ ge)
     ])
+
+-- the row at the place of a key
+pub placed : (key : List ℕ) (rows : List Row) (d : Row) → IsDistinct bytes_eq (keys_of rows) → position_or_len (has_key key) rows < length rows
+    → IsRowOf key rows (get_or rows (position_or_len (has_key key) rows) d)
+placed key [] d h within = absurd (omega arith)
+placed key (x ∷ xs) d h within = elim (cases_Bool (has_key key x)) [
+  | inl e ↦ rw e (first_has key x xs h e)
+  | inr e ↦
+      let n = position_or_len (has_key key) xs in
+      let behind : position_or_len (has_key key) (x ∷ xs) ≡ suc n = rw e (omega arith) in
+      let f = placed key xs d (IsDistinct-tail bytes_eq x.key (keys_of xs) h) (omega (arith, behind)) in
+      rw behind (record { there = rw e f.there; has = f.has; only = rw e f.only })
+]
 
 -- the rows that are marked as others are those without the key
 pub marked_others : (key : List ℕ) (rows : List Row) → marked (map (λ (r : Row). not (has_key key r)) rows) rows ≡ without key rows

@@ -1,5 +1,6 @@
 mod Keys
 mod Kept
 mod Moves
+mod Puts
 pub mod Shared
 mod Unrefused

@@ -1,6 +1,6 @@
 -- What a move and a new scalar change, and where they change nothing.
 use Rattle.std.proofs.Common.{◌≡◌, ℕ, zero, suc, ◌+◌, ◌<◌, true, false, not, get_or, List, [], ◌∷◌, ◌++◌, length, take, drop, set, refl, sym, ap, subst, ◌∙◌, arith, inl, inr, append_assoc}
-use Rattle.std.specs.List.{AllByRecursion, IsDistinct}
+use Rattle.std.specs.List.{AllByRecursion, IsDistinct, position_or_len}
 use Rattle.std.specs.List.Sorted.{IsPermutation}
 use Rattle.std.specs.Str.{bytes_eq}
 use Rattle.std.proofs.Math.Seq.{get_or-append_seam}
@@ -79,6 +79,23 @@ none_changed key at v [] h = refl
 none_changed key at v (x ∷ xs) h = elim (cases_Bool (has_key key x)) [
   | inl e ↦ absurd (let k : x ∷ row_of key xs ≡ [] = rw e at h in cc)
   | inr e ↦ rw e (ap (λ (l : List Row). x ∷ l) (none_changed key at v xs (rw e at h)))
+]
+
+-- the row with the key is changed where it stands
+pub changed_there : (key : List ℕ) (at : ℕ) (v : Scalar) (rows : List Row) (d : Row) → IsDistinct bytes_eq (keys_of rows)
+    → position_or_len (has_key key) rows < length rows
+    → changed key at v rows ≡ set rows (position_or_len (has_key key) rows) (with_value at v (get_or rows (position_or_len (has_key key) rows) d))
+changed_there key at v [] d h within = absurd (omega arith)
+changed_there key at v (x ∷ xs) d h within = elim (cases_Bool (has_key key x)) [
+  | inl e ↦
+      let same = key_is key x e in
+      let rest = none_more key xs (rw same at (IsDistinct-head bytes_eq x.key (keys_of xs) h)) in
+      rw e (ap (λ (l : List Row). with_value at v x ∷ l) (none_changed key at v xs rest.0))
+  | inr e ↦
+      let n = position_or_len (has_key key) xs in
+      let behind : position_or_len (has_key key) (x ∷ xs) ≡ suc n = rw e (omega arith) in
+      let f = changed_there key at v xs d (IsDistinct-tail bytes_eq x.key (keys_of xs) h) (omega (arith, behind)) in
+      rw (behind, e) (ap (λ (l : List Row). x ∷ l) f)
 ]
 
 -- where the row stays as it is, all do

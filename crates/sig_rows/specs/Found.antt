@@ -1,9 +1,9 @@
 -- What was looked up in rows.
-use Rattle.std.specs.Prelude.{◌≡◌, ℕ, ◌<◌, true, List, [], ◌∷◌, length}
-use Rattle.std.specs.List.{list_any}
+use Rattle.std.specs.Prelude.{◌≡◌, ℕ, ◌<◌, Bool, true, List, [], ◌∷◌, length}
+use Rattle.std.specs.List.{list_any, position_or_len}
 use Rattle.std.specs.Str.{bytes_eq}
 use Rattle.sig_base.specs.declared.rows.Row.{Row}
-use Rattle.sig_rows.specs.Edits.{field_place, has_key, row_of}
+use Rattle.sig_rows.specs.Edits.{has_key, row_of}
 
 -- the row is the one with the key
 pub record IsRowOf (key : List ℕ) (rows : List Row) (row : Row) : Type 0 where
@@ -11,8 +11,16 @@ pub record IsRowOf (key : List ℕ) (rows : List Row) (row : Row) : Type 0 where
   pub has : has_key key row ≡ true
   pub only : row_of key rows ≡ row ∷ []
 
+-- the place is that of the first element for which the test holds
+pub record IsFirstPlace {A : Type 0} (test : A → Bool) (xs : List A) (at : ℕ) : Type 0 where
+  pub there : list_any test xs ≡ true
+  pub within : at < length xs
+  pub is : at ≡ position_or_len test xs
+
 -- the place is that of the field
-pub record IsFieldPlace (name : List ℕ) (fields : List (List ℕ)) (at : ℕ) : Type 0 where
-  pub there : list_any (λ f. bytes_eq f name) fields ≡ true
-  pub within : at < length fields
-  pub is : at ≡ field_place name fields
+abbrev pub IsFieldPlace : List ℕ → List (List ℕ) → ℕ → Type 0
+IsFieldPlace name fields = IsFirstPlace (λ f. bytes_eq f name) fields
+
+-- the place is that of the row with the key
+abbrev pub IsRowPlace : List ℕ → List Row → ℕ → Type 0
+IsRowPlace key rows = IsFirstPlace (has_key key) rows

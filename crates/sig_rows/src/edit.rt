@@ -6,7 +6,7 @@ ghost use Rattle.sig_rows.specs.Faults.{insert_fault, move_fault, put_fault, rem
 
 use crate::RowFault;
 use crate::refusals::{insert_fault, remove_fault};
-use crate::row::{changed, copies, field_place, other_marks, row_of, scalars};
+use crate::row::{changed, copies, field_place, other_marks, row_of, row_place, scalars};
 use sig_base::{Name, NoMemory, Row, Rows, Scalar, Scalars, Text};
 use std::alloc::Global;
 
@@ -123,16 +123,18 @@ pub fn put_field(
     ensures refused { IfErr result (λ why. IsCause (put_fault rows.old key.now field.now) why) }
     ensures kept { OnErr result (rows.new ≡ rows.old) }
 {
-    let Some(row) = row_of(rows.rows(), key) else {
+    let Some(place) = row_place(rows.rows(), key) else {
         return Err(RowFault::KeyMissing);
     };
     let Some(at) = field_place(rows.fields(), field) else {
         return Err(RowFault::Field);
     };
-    if row.values.as_slice()[at] == *value {
+    if rows.row(place).values.as_slice()[at] == *value {
         return Ok(false); // it is there already
     }
-    let list = changed(alloc, rows.rows(), key, at, value)?;
-    *rows = rows.with_rows(alloc, list)?;
+    let list = changed(alloc, rows.rows(), place, at, value)?;
+    let mut now = rows.with_rows(alloc, list)?;
+    now.note_changed(place);
+    *rows = now;
     Ok(true)
 }

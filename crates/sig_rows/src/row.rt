@@ -1,10 +1,11 @@
 // Rows and their parts, looked up and copied.
-ghost use Rattle.std.specs.Prelude.{◌≡◌, ◌<◌, length, All, IfOk, MatchOption, false, map, not, if◌then◌else◌};
-ghost use Rattle.std.specs.List.{list_any, position, IsDistinct};
+ghost use Rattle.std.specs.Prelude.{◌≡◌, ◌<◌, length, All, IfOk, MatchOption, Some, false, map, not, slice_set};
+ghost use Rattle.std.specs.List.{list_any, position, slice_get, IsDistinct};
 ghost use Rattle.std.specs.Str.{bytes_eq};
 ghost use Rattle.sig_base.specs.Tables.{keys_of};
-ghost use Rattle.sig_rows.specs.Edits.{changed, has_key, with_value};
-ghost use Rattle.sig_rows.specs.Found.{IsFieldPlace, IsRowOf};
+ghost use Rattle.sig_base.specs.declared.rows.Row.{Row as ARow};
+ghost use Rattle.sig_rows.specs.Edits.{has_key, with_value};
+ghost use Rattle.sig_rows.specs.Found.{IsFieldPlace, IsRowOf, IsRowPlace};
 
 use sig_base::{Name, NoMemory, Row, Scalar, Scalars, Text};
 use std::alloc::Global;
@@ -34,6 +35,21 @@ pub fn row_of<'a>(rows: &'a [Row], key: &Text) -> Option<&'a Row>
         }
     }
     None
+}
+
+// The first place of a row with this key.
+fn first_row(rows: &[Row], key: &Text) -> Option<usize>
+    ensures { result ≡ position (has_key key.now) rows.now }
+{
+    rows.iter().position(|row| row.key == *key)
+}
+
+/// The place of the row with this key.
+pub fn row_place(rows: &[Row], key: &Text) -> Option<usize>
+    ensures { MatchOption result (list_any (has_key key.now) rows.now ≡ false) (IsRowPlace key.now rows.now) }
+{
+    let found = first_row(rows, key);
+    found
 }
 
 // The first place of this name.
@@ -97,38 +113,20 @@ fn with_value(alloc: Global, row: &Row, at: usize, value: &Scalar) -> Result<Row
     })
 }
 
-// The row, with another scalar at a place where it has this key.
-fn changed_row(
-    alloc: Global,
-    row: &Row,
-    key: &Text,
-    at: usize,
-    value: &Scalar,
-) -> Result<Row, NoMemory>
-    requires { at < length row.now.values }
-    ensures { IfOk result (λ r. r ≡ (if has_key key.now row.now then with_value at value.now row.now else row.now)) }
-{
-    if row.key == *key {
-        with_value(alloc, row, at, value)
-    } else {
-        row.copy()
-    }
-}
-
-/// Copies of these rows, of which the one with this key has another scalar at a place.
+/// Copies of these rows, of which the one at a place has another scalar in a field.
 pub fn changed(
     alloc: Global,
     rows: &[Row],
-    key: &Text,
+    place: usize,
     at: usize,
     value: &Scalar,
 ) -> Result<Vec<Row>, NoMemory>
-    requires { All (λ r. at < length r.values) rows.now }
-    ensures { IfOk result (λ v. v.items ≡ changed key.now at value.now rows.now) }
+    requires place { place < length rows.now }
+    requires at { All (λ r. at < length r.values) rows.now }
+    ensures { IfOk result (λ v. (row : ARow) → slice_get rows.now place ≡ Some row → v.items ≡ slice_set rows.now place (with_value at value.now row)) }
 {
-    let mut out = Vec::with_capacity(alloc, rows.len())?;
-    for row in rows {
-        out.push(changed_row(alloc, row, key, at, value)?)?;
-    }
-    Ok(out)
+    let row = with_value(alloc, &rows[place], at, value)?;
+    let mut list = copies(alloc, rows)?;
+    list[place] = row;
+    Ok(list)
 }
