@@ -12,7 +12,7 @@ use std::alloc::Global;
 fn staying(alloc: Global, numbers: &[u64], next: u64) -> Result<Vec<u64>, NoMemory>
     ensures { IfOk result (λ v. v.items ≡ below next numbers.now) }
 {
-    let mut staying = Vec::new(alloc);
+    let mut staying = Vec::with_capacity(alloc, numbers.len())?;
     for number in numbers {
         if *number < next {
             staying.push(*number)?;
@@ -64,7 +64,7 @@ fn step_for(number: u64, place: usize, next: u64) -> RowStep
 fn standing(alloc: Global, numbers: &[u64], next: u64) -> Result<Vec<RowStep>, NoMemory>
     ensures { IfOk result (λ v. v.items ≡ stand_from next 0 numbers.now) }
 {
-    let mut steps = Vec::new(alloc);
+    let mut steps = Vec::with_capacity(alloc, numbers.len())?;
     for (place, number) in numbers.iter().enumerate() {
         steps.push(step_for(*number, place, next))?;
     }

@@ -61,7 +61,7 @@ fn is_there<K: RowKey>(keys: &IndexSet<K>, key: &K) -> bool
 fn marks<K: RowKey>(alloc: Global, list: &[K], keys: &IndexSet<K>) -> Result<Vec<bool>, NoMemory>
     ensures { IfOk result (λ v. v.items ≡ map (λ k. listed K.eq k keys.now.keys) list.now) }
 {
-    let mut marks = Vec::new(alloc);
+    let mut marks = Vec::with_capacity(alloc, list.len())?;
     for key in list {
         marks.push(is_there(keys, key))?;
     }
@@ -154,7 +154,7 @@ fn steps_by<K: RowKey>(
     requires marks { length waiting.old.items ≡ length old.now.keys }
     ensures { IfOk result (λ v. v.items ≡ judged K.eq old.now.keys 0 (left waiting.old.items old.now.keys) new.now) }
 {
-    let mut steps = Vec::new(alloc);
+    let mut steps = Vec::with_capacity(alloc, new.len())?;
     let mut head = 0;
     for (i, key) in new.iter().enumerate() {
         steps.push(next_step(old, waiting, &mut head, i, key))?;
