@@ -8,7 +8,7 @@ use Rattle.std.proofs.Common.{◌≡◌, ℕ, zero, suc, ◌+◌, ◌<◌, ◌�
 use Rattle.std.specs.Prelude.{slice_get}
 use Rattle.signal_model.specs.Signals.{is_computed, standing}
 use Rattle.signal_model.specs.Memos.{Source, Memo, differs, is_cycle, is_moved, is_stale_by, keeps, memo_is_cycle, must_run, must_run_by, same_number, some_moved, source_names, sources_in}
-use Rattle.signal_model.specs.Marks.{HasBelow, Checked, Clean, Dirty, kept, kept_below, mark_of}
+use Rattle.signal_model.specs.Marks.{HasBelow, IsMark, Mark, Checked, Clean, Dirty, kept, kept_below, mark_of}
 use Rattle.signal_model.specs.Kept.{OnlyComputedsKeep}
 use Rattle.signal_model.proofs.Shared.{mark_law}
 use Rattle.sig_nodes.specs.declared.node.Node.{Node}
@@ -16,6 +16,7 @@ use Rattle.sig_nodes.specs.declared.node.Body.{Body}
 use Rattle.sig_nodes.specs.declared.node.Body.TheVariants.{Gone, Cell as CellBody, Computed as ComputedBody}
 use Rattle.sig_nodes.specs.Computations.{at_generation}
 use Rattle.sig_nodes.specs.Nodes.{body_at, has_differed, is_computed_body, memo_body, memos_of, seat_at, signals_of, stands_of}
+use Rattle.sig_nodes.specs.Looks.{is_clean_mark}
 use Rattle.sig_nodes.specs.Places.{NodesAgree}
 use Rattle.sig_nodes.specs.Search.{is_due_at, AreSeated, HasDue}
 use Rattle.sig_nodes.specs.Seats.{Seating, holder}
@@ -112,6 +113,26 @@ dirty_mark xs g n h = (mark_law (signals_of xs) (memos_of g xs) n Dirty (only_ke
 
 pub checked_mark : (xs : List Node) (g n : ℕ) → is_computed_body (body_at xs n) ≡ true → is_due_at xs g n ≡ false → HasBelow (is_due_at xs g) (memos_of g xs) n → Checked ≡ mark_of (signals_of xs) (memos_of g xs) n
 checked_mark xs g n c h below = (mark_law (signals_of xs) (memos_of g xs) n Checked (only_keep xs g)).1 (calm_run xs g n c h, below)
+
+-- what must run, or something below which must, isn't clean
+pub due_unclean : (xs : List Node) (g n : ℕ) → is_computed_body (body_at xs n) ≡ true → HasDue xs g n → false ≡ is_clean_mark (mark_of (signals_of xs) (memos_of g xs) n)
+due_unclean xs g n c (inl h) = ap is_clean_mark (dirty_mark xs g n h)
+due_unclean xs g n c (inr below) = go (is_due_at xs g n) refl
+  where
+    go : (b : Bool) → is_due_at xs g n ≡ b → false ≡ is_clean_mark (mark_of (signals_of xs) (memos_of g xs) n)
+    go true h = ap is_clean_mark (dirty_mark xs g n h)
+    go false h = ap is_clean_mark (checked_mark xs g n c h below)
+
+-- what needn't run and isn't clean is checked
+pub unclean_checked : (xs : List Node) (g n : ℕ) → is_computed_body (body_at xs n) ≡ true → is_due_at xs g n ≡ false → is_clean_mark (mark_of (signals_of xs) (memos_of g xs) n) ≡ false →
+    Checked ≡ mark_of (signals_of xs) (memos_of g xs) n
+unclean_checked xs g n c h off = go (mark_of (signals_of xs) (memos_of g xs) n) refl
+  where
+    go : (m : Mark) → mark_of (signals_of xs) (memos_of g xs) n ≡ m → Checked ≡ mark_of (signals_of xs) (memos_of g xs) n
+    go Clean e = absurd (true≢false (ap is_clean_mark (sym e) ∙ off))
+    go Checked e = sym e
+    go Dirty e =
+        absurd (true≢false (sym (subst (IsMark (signals_of xs) (memos_of g xs) n) e (mark_law (signals_of xs) (memos_of g xs) n Dirty (only_keep xs g)).0) ∙ calm_run xs g n c h))
 
 -- what isn't marked is clean
 pub unmarked_clean : (xs : List Node) (g : ℕ) (table : MarkTable) (n : ℕ) → KeepsMarks xs g table → is_computed_body (body_at xs n) ≡ true → marked_at table.marked n ≡ false → Clean ≡ mark_of (signals_of xs) (memos_of g xs) n

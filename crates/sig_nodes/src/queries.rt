@@ -1,15 +1,16 @@
 // Looks at signals, and the marks of computeds.
-ghost use Rattle.std.specs.Prelude.{◌≡◌, true};
+ghost use Rattle.std.specs.Prelude.{◌≡◌, true, false};
 ghost use Rattle.signal_model.specs.Signals.{is_computed, standing};
 ghost use Rattle.signal_model.specs.Marks.{mark_of};
 ghost use Rattle.sig_nodes.specs.Answers.{mark_meant};
-ghost use Rattle.sig_nodes.specs.Looks.{look_here, look_meant};
+ghost use Rattle.sig_nodes.specs.Looks.{is_clean_mark, look_here, look_meant};
 ghost use Rattle.sig_nodes.specs.States.{is_computing, with_look, Becomes};
 
 use crate::answers::{Mark, Standing};
 use crate::evaluation::counted;
 use crate::graph::Graph;
-use crate::search::search;
+use crate::marks::is_due;
+use crate::search::finds_due;
 use crate::search_marks::unmark_reached;
 use sig_base::NodeId;
 
@@ -54,18 +55,17 @@ fn found(graph: &mut Graph, id: NodeId) -> Look
 }
 
 impl Graph {
-    /// The mark of a computed: whether it must run, or else something below it along kept sources. A search that found nothing that must
-    /// run takes the marks of all that it went through, if it may. It is no counted step, and takes no memory.
-    pub fn mark_of(&mut self, id: NodeId) -> Mark
+    // Whether a computed is clean. A search that found nothing that must run takes the marks of all that it went through, if it may.
+    fn has_clean_mark(&mut self, id: NodeId) -> bool
         requires { is_computed (standing self.old.state.signals id) ≡ true }
-        ensures mark { mark_meant result ≡ mark_of self.old.state.signals self.old.state.memos id }
+        ensures clean { result ≡ is_clean_mark (mark_of self.old.state.signals self.old.state.memos id) }
         ensures same { self.new ≡ self.old }
     {
         let _count = self.nodes.made();
         if !self.marks.is_marked(id) {
-            return Mark::Clean;
+            return true;
         }
-        match search(
+        if finds_due(
             &self.nodes,
             self.generation,
             self.worn,
@@ -75,17 +75,52 @@ impl Graph {
             &mut self.trail,
             &mut self.finds,
         ) {
-            Mark::Clean => {
-                unmark_reached(
-                    &self.nodes,
-                    &self.seats,
-                    &mut self.marks,
-                    self.reached.seats(),
-                );
-                Mark::Clean
-            }
-            mark => mark,
+            return false;
         }
+        unmark_reached(
+            &self.nodes,
+            &self.seats,
+            &mut self.marks,
+            self.reached.seats(),
+        );
+        true
+    }
+
+    // The mark of a computed that isn't clean.
+    fn unclean_mark(&self, id: NodeId) -> Mark
+        requires computed { is_computed (standing self.now.state.signals id) ≡ true }
+        requires unclean { is_clean_mark (mark_of self.now.state.signals self.now.state.memos id) ≡ false }
+        ensures { mark_meant result ≡ mark_of self.now.state.signals self.now.state.memos id }
+    {
+        if is_due(&self.nodes, self.generation, id) {
+            return Mark::Dirty;
+        }
+        Mark::Checked
+    }
+
+    /// The mark of a computed: whether it must run, or else something below it along kept sources. A search that found nothing that must
+    /// run takes the marks of all that it went through, if it may. It is no counted step, and takes no memory.
+    pub fn mark_of(&mut self, id: NodeId) -> Mark
+        requires { is_computed (standing self.old.state.signals id) ≡ true }
+        ensures mark { mark_meant result ≡ mark_of self.old.state.signals self.old.state.memos id }
+        ensures same { self.new ≡ self.old }
+    {
+        if self.has_clean_mark(id) {
+            return Mark::Clean;
+        }
+        self.unclean_mark(id)
+    }
+
+    /// Looks at a computed that isn't being evaluated: whether it is clean. It is a counted step, and takes no memory.
+    pub fn is_clean(&mut self, id: NodeId) -> bool
+        requires { is_computed (standing self.old.state.signals id) ≡ true }
+        ensures clean { result ≡ is_clean_mark (mark_of self.old.state.signals self.old.state.memos id) }
+        ensures after { Becomes self.old self.new (with_look self.old.state) }
+        ensures seats { self.new.seats ≡ self.old.seats }
+    {
+        let clean = self.has_clean_mark(id);
+        self.looked = counted(self.looked);
+        clean
     }
 
     /// Looks at an id: what stands there, and of a computed that isn't being evaluated its mark. It is a counted step, and takes no

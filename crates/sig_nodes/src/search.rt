@@ -1,19 +1,16 @@
 // The search for a computed that must run, among what is marked below a computed.
-ghost use Rattle.std.specs.Prelude.{◌≡◌, ℕ, ◌+◌, ◌*◌, ◌<◌, ◌≤◌, ◌++◌, ◌∷◌, [], length, true, false};
+ghost use Rattle.std.specs.Prelude.{◌≡◌, ℕ, ◌+◌, ◌*◌, ◌<◌, ◌≤◌, ◌++◌, ◌∷◌, [], length, not, true, false};
 ghost use Rattle.signal_model.specs.Signals.{is_in};
 ghost use Rattle.signal_model.specs.Memos.{source_names, sources_in};
 ghost use Rattle.signal_model.specs.Marks.{mark_of};
-ghost use Rattle.sig_marks.specs.Tables.{marked_at};
-ghost use Rattle.sig_nodes.specs.declared.answers.Mark.TheVariants as mark;
-ghost use Rattle.sig_nodes.specs.Answers.{mark_meant};
+ghost use Rattle.sig_nodes.specs.Looks.{is_clean_mark};
 ghost use Rattle.sig_nodes.specs.Nodes.{body_at, is_computed_body, memo_body, memos_of, seat_at, signals_of};
 ghost use Rattle.sig_nodes.specs.Places.{KeepsFound, KeepsMarks};
-ghost use Rattle.sig_nodes.specs.Search.{first_new, is_new, AreDue, AreSeated, HasDue, IsWay, Reaches};
+ghost use Rattle.sig_nodes.specs.Search.{first_new, is_due_at, is_new, AreDue, AreSeated, HasDue, IsWay, Reaches};
 
-use crate::answers::Mark;
 use crate::bodies::{seat_at, sources_at};
 use crate::finds::Finds;
-use crate::marks::{computed_seat, is_due, is_told};
+use crate::marks::{computed_seat, is_told};
 use crate::nodes::Nodes;
 use crate::trail::Trail;
 use sig_base::{MOST_NODES, NodeId};
@@ -153,9 +150,9 @@ fn begin(nodes: &Nodes, id: NodeId, reached: &mut Reached, trail: &mut Trail)
     go_to(nodes, id, reached, trail);
 }
 
-/// The mark of a marked computed. Where it is clean, all seats that the search came to are reached afterwards. What it found is noted by
-/// seat, with the count of changes at which it did, and isn't searched for anew until the next change.
-pub(crate) fn search(
+// Whether something below a computed that needn't run itself must run. What it found is noted by seat, with the count of changes at which it
+// did. As it goes on from what is asked of a search, and says what a search says, its clauses are those of one.
+fn finds_below(
     nodes: &Nodes,
     generation: u128,
     worn: u128,
@@ -164,26 +161,48 @@ pub(crate) fn search(
     reached: &mut Reached,
     trail: &mut Trail,
     finds: &mut Finds,
-) -> Mark
+) -> bool
     requires live { is_computed_body (body_at nodes.now.items id) ≡ true }
-    requires marked { marked_at marks.now.marked id ≡ true }
+    requires calm { is_due_at nodes.now.items generation id ≡ false }
     requires marks { KeepsMarks nodes.now.items generation marks.now }
     requires seats { AreSeated nodes.now.items MOST_NODES }
     requires kept { KeepsFound nodes.now.items generation worn finds.old }
-    ensures mark { mark_meant result ≡ mark_of (signals_of nodes.now.items) (memos_of generation nodes.now.items) id }
-    ensures reached { result ≡ mark.Clean → Reaches nodes.now.items marks.now.marked generation reached.new [] }
+    ensures mark { not result ≡ is_clean_mark (mark_of (signals_of nodes.now.items) (memos_of generation nodes.now.items) id) }
+    ensures reached { result ≡ false → Reaches nodes.now.items marks.now.marked generation reached.new [] }
     ensures kept { KeepsFound nodes.now.items generation worn finds.new }
 {
-    if is_due(nodes, generation, id) {
-        return Mark::Dirty;
-    }
-    if finds.is_found(worn, seat_at(nodes, id)) {
-        return Mark::Checked;
-    }
     begin(nodes, id, reached, trail);
     if goes_to_due(nodes, generation, worn, marks, finds, reached, trail) {
         note_all(nodes, worn, trail, finds);
-        return Mark::Checked;
+        return true;
     }
-    Mark::Clean
+    false
+}
+
+/// Whether a computed, or something below it, must run. Where nothing must, all seats that the search came to are reached afterwards. What
+/// it found is noted by seat, with the count of changes at which it did, and isn't searched for anew until the next change. What it reached
+/// and what it noted are told apart from its answer, and what it needs of the graph's parts is asked for by part.
+pub(crate) fn finds_due(
+    nodes: &Nodes,
+    generation: u128,
+    worn: u128,
+    marks: &Marks,
+    id: NodeId,
+    reached: &mut Reached,
+    trail: &mut Trail,
+    finds: &mut Finds,
+) -> bool
+    requires live { is_computed_body (body_at nodes.now.items id) ≡ true }
+    requires marks { KeepsMarks nodes.now.items generation marks.now }
+    requires seats { AreSeated nodes.now.items MOST_NODES }
+    requires kept { KeepsFound nodes.now.items generation worn finds.old }
+    ensures mark { not result ≡ is_clean_mark (mark_of (signals_of nodes.now.items) (memos_of generation nodes.now.items) id) }
+    ensures reached { result ≡ false → Reaches nodes.now.items marks.now.marked generation reached.new [] }
+    ensures kept { KeepsFound nodes.now.items generation worn finds.new }
+{
+    let seat = seat_at(nodes, id);
+    if is_told(nodes, generation, worn, id, seat, finds) {
+        return true;
+    }
+    finds_below(nodes, generation, worn, marks, id, reached, trail, finds)
 }

@@ -1,29 +1,20 @@
-use Rattle.std.proofs.Common.{ℕ, ◌≡◌, ◌||◌, ◌∷◌, [], List, true, false, length, ap, sym, ◌∙◌, refl, subst, arith}
+use Rattle.std.proofs.Common.{◌≡◌, ◌||◌, ◌∷◌, [], ℕ, List, true, false, length, ap, sym, ◌∙◌, refl, subst, arith}
 use Rattle.std.proofs.lemmas.Bool.{eq-eqb}
 use Rattle.signal_model.specs.Signals.{is_in}
+use Rattle.sig_nodes.specs.Looks.{is_clean_mark}
 use Rattle.sig_nodes.specs.Nodes.{seat_at}
-use Rattle.sig_nodes.specs.Search.{found_at, IsWay, Reaches}
-use Rattle.sig_nodes.proofs.KeptFinds.{found_below}
+use Rattle.sig_nodes.specs.Search.{IsWay, Reaches}
 use Rattle.sig_nodes.proofs.Walks.{reach_begin, reached_clean}
-use Rattle.sig_nodes.proofs.Searches.{checked_mark}
-use Rattle.sig_nodes.proofs.search.search.Goals as goal
-
-pub returns-then-is_found-clause-mark : goal.returns-then-is_found-clause-mark
-returns-then-is_found-clause-mark c =
-    let xs = c.args.nodes.now.items in
-    let g = c.args.generation in
-    let calm = sym c.is_due.ensures ∙ c.if-is_due.false in
-    let due = c.requires.kept.due c.args.id c.requires.live (ap (found_at c.args.finds.now) (sym c.seat_at.ensures) ∙ c.is_found.ensures c.if-is_found.true) in
-    checked_mark xs g c.args.id c.requires.live calm (found_below xs g c.args.id calm due)
+use Rattle.sig_nodes.proofs.Searches.{due_unclean}
+use Rattle.sig_nodes.proofs.search.finds_below.Goals as goal
 
 pub goes_to_due-requires-clause-part : goal.goes_to_due-requires-clause-part
 goes_to_due-requires-clause-part c =
     let xs = c.args.nodes.now.items in
     let g = c.args.generation in
     let t = c.args.marks.now.marked in
-    let calm = sym c.is_due.ensures ∙ c.if-is_due.false in
     subst (λ (ns : List ℕ). Reaches xs t g c.begin.new.reached ns) (sym c.begin.ensures.trail)
-    (subst (λ (ss : List ℕ). Reaches xs t g ss (c.args.id ∷ [])) (sym c.begin.ensures.reached) (reach_begin xs t g c.args.id c.requires.seats c.requires.live calm))
+    (subst (λ (ss : List ℕ). Reaches xs t g ss (c.args.id ∷ [])) (sym c.begin.ensures.reached) (reach_begin xs t g c.args.id c.requires.seats c.requires.live c.requires.calm))
 
 pub goes_to_due-requires-clause-room : goal.goes_to_due-requires-clause-room
 goes_to_due-requires-clause-room c =
@@ -45,17 +36,16 @@ pub returns-then-goes_to_due-clause-mark : goal.returns-then-goes_to_due-clause-
 returns-then-goes_to_due-clause-mark c =
     let xs = c.args.nodes.now.items in
     let g = c.args.generation in
-    let calm = sym c.is_due.ensures ∙ c.if-is_due.false in
     let way = subst (λ (ns : List ℕ). IsWay xs g c.args.id ns) (sym c.begin.ensures.trail) refl in
-    checked_mark xs g c.args.id c.requires.live calm (found_below xs g c.args.id calm (c.goes_to_due.ensures.due c.if-goes_to_due.true c.args.id way).1)
+    due_unclean xs g c.args.id c.requires.live (c.goes_to_due.ensures.due c.if-goes_to_due.true c.args.id way).1
 
 pub returns-clause-mark : goal.returns-clause-mark
 returns-clause-mark c =
     let xs = c.args.nodes.now.items in
-    let calm = sym c.is_due.ensures ∙ c.if-is_due.false in
     let here = subst (λ (ss : List ℕ). is_in (seat_at xs c.args.id) ss ≡ true) (sym c.begin.ensures.reached) (ap (λ b. b || false) (eq-eqb (seat_at xs c.args.id) (seat_at xs c.args.id) refl)) in
-    reached_clean xs c.args.generation c.args.marks.now c.args.id c.goes_to_due.new.reached c.requires.marks c.requires.live calm (c.goes_to_due.ensures.part c.if-goes_to_due.false)
-    (c.goes_to_due.ensures.more (seat_at xs c.args.id) here)
+    ap is_clean_mark
+    (reached_clean xs c.args.generation c.args.marks.now c.args.id c.goes_to_due.new.reached c.requires.marks c.requires.live c.requires.calm (c.goes_to_due.ensures.part c.if-goes_to_due.false)
+    (c.goes_to_due.ensures.more (seat_at xs c.args.id) here))
 
 pub returns-clause-reached : goal.returns-clause-reached
-returns-clause-reached c = λ clean. c.goes_to_due.ensures.part c.if-goes_to_due.false
+returns-clause-reached c = λ none. c.goes_to_due.ensures.part c.if-goes_to_due.false
