@@ -99,6 +99,12 @@ asked_live Gone known h = absurd h
 asked_live (CellBody v r) known h = absurd h
 asked_live (ComputedBody c) known h = refl
 
+-- what keeps a run lives
+pub kept_live : (b : Body) → is_some (memo_body b) ≡ true → is_live_body b ≡ true
+kept_live Gone h = h
+kept_live (CellBody v r) h = refl
+kept_live (ComputedBody c) h = refl
+
 -- a computed is at the values that its evaluation is given
 pub begun_here : (k : Option (List Known)) (n : ℕ) (xs : List Node) → is_computed_body (body_at xs n) ≡ true → progress_at n (progress_of (changed_at (known_node k) n xs)) ≡ k
 begun_here k n xs live =

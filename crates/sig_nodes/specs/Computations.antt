@@ -1,8 +1,9 @@
 -- What is kept of one computed.
-use Rattle.std.specs.Prelude.{ℕ, List, [], ◌∷◌, Option}
+use Rattle.std.specs.Prelude.{ℕ, List, [], ◌∷◌, Option, false}
 use Rattle.sig_base.specs.declared.value.Known.{Known}
+use Rattle.sig_base.specs.declared.value.Outcome.{Outcome}
 use Rattle.signal_model.specs.Recipes.{Expression, Recipe}
-use Rattle.signal_model.specs.Memos.{Source, Memo, Memos}
+use Rattle.signal_model.specs.Memos.{Source, Memo, Memos, source_names, sources_in}
 
 -- its recipe, its memo where it has run, and while it is computing the values that its recipe was last asked with
 pub record Computation : Type 0 where
@@ -15,6 +16,11 @@ abbrev pub paired : List ℕ → List (Option ℕ) → List Source
 paired [] _ = []
 paired (n ∷ ns) [] = []
 paired (n ∷ ns) (m ∷ ms) = record { name = n; number = m } ∷ paired ns ms
+
+-- the memo of a run that read the sources of another anew, which have these numbers now
+abbrev pub renewed : Option Memo → Outcome → List (Option ℕ) → ℕ → Memo
+renewed m o numbers generation =
+    record { outcome = o; sources = paired (source_names (sources_in m)) numbers; generation = generation; rewired = false }
 
 -- a recipe of an expression and of the signals of its slots
 abbrev pub recipe_made : Expression → List ℕ → Recipe

@@ -1,8 +1,8 @@
 // The calls of an evaluation.
-ghost use Rattle.std.specs.Prelude.{◌≡◌, ◌<◌, [], length, take, true, false, None, Some, IfOk, IfSome, OnOk, slice_get};
+ghost use Rattle.std.specs.Prelude.{◌≡◌, ◌<◌, [], length, take, true, false, None, Some, IfOk, IfSome, OnOk, is_some, slice_get};
 ghost use Rattle.std.specs.List.{All};
 ghost use Rattle.signal_model.specs.Signals.{is_computed, standing};
-ghost use Rattle.signal_model.specs.Memos.{is_stale, sources_of};
+ghost use Rattle.signal_model.specs.Memos.{is_stale, memo_of, source_names, sources_of};
 ghost use Rattle.sig_nodes.specs.Answers.{has_moved, slots_here, IsAnswerHere, IsJudgedAnswer};
 ghost use Rattle.sig_nodes.specs.States.{counted, is_computing, is_given, progress_at, with_kept_run, with_look, with_progress, Becomes, CanWear, GoesOn};
 
@@ -10,9 +10,9 @@ use crate::answers::Asked;
 use crate::bodies::{is_stale_at, moved_at, numbers_now};
 use crate::end_marks::{end_mark, run_unmarks, stop_unmarks};
 use crate::graph::Graph;
-use crate::links::relink;
-use crate::node::{Memo, take_room};
-use crate::store::{ask_at, begin_at, end_at, keep_memo_at};
+use crate::links::{copied, has_read, relink};
+use crate::node::{Memo, keep_room, take_room};
+use crate::store::{ask_at, begin_at, end_at, keep_memo_at, renew_memo_at};
 use sig_base::{Known, NoMemory, NodeId, Outcome};
 use std::mem;
 
@@ -103,6 +103,57 @@ impl Graph {
         let memo = Memo::new(outcome, reads, numbers, self.generation);
         let former = keep_memo_at(&mut self.nodes, id, memo);
         take_room(&mut self.room, former);
+        Ok(())
+    }
+
+    // Ends an evaluation with a run that read what the kept one did. Its clauses are those of any run, beside what it needs of the kept one.
+    fn keep_again(&mut self, id: NodeId, outcome: Outcome, reads: &[NodeId]) -> Result<(), NoMemory>
+        requires kept { is_some (memo_of self.old.state.memos id) ≡ true }
+        requires same { source_names (sources_of self.old.state.memos id) ≡ reads.now }
+        requires computing { is_computing self.old.state id ≡ true }
+        requires given { All (λ n. is_given self.old n ≡ true) reads.now }
+        requires worn { CanWear self.old.state }
+        ensures after { OnOk result (Becomes self.old self.new (with_kept_run self.old.state id outcome reads.now)) }
+        ensures seats { OnOk result (self.new.seats ≡ self.old.seats) }
+    {
+        let _count = self.nodes.made();
+        let room = mem::replace(&mut self.room, Vec::new(self.alloc));
+        let numbers = numbers_now(room, &self.nodes, reads)?;
+        let unmarks = run_unmarks(&self.nodes, &self.marks, &outcome, reads);
+        end_mark(&mut self.marks, id, unmarks);
+        self.worn += 1;
+        let former = renew_memo_at(&mut self.nodes, id, outcome, numbers, self.generation);
+        keep_room(&mut self.room, former);
+        Ok(())
+    }
+
+    // Whether a computed keeps a run that read exactly these.
+    fn has_read(&self, id: NodeId, reads: &[NodeId]) -> bool
+        ensures kept { result ≡ true → is_some (memo_of self.now.state.memos id) ≡ true }
+        ensures same { result ≡ true → source_names (sources_of self.now.state.memos id) ≡ reads.now }
+    {
+        has_read(&self.nodes, id, reads)
+    }
+
+    /// Ends an evaluation with a run, as `keep_run` does, and takes a list of what it read only where the kept run didn't read the same.
+    pub fn keep_reads(
+        &mut self,
+        id: NodeId,
+        outcome: Outcome,
+        reads: &[NodeId],
+    ) -> Result<(), NoMemory>
+        requires computing { is_computing self.old.state id ≡ true }
+        requires given { All (λ n. is_given self.old n ≡ true) reads.now }
+        requires worn { CanWear self.old.state }
+        ensures after { OnOk result (Becomes self.old self.new (with_kept_run self.old.state id outcome reads.now)) }
+        ensures seats { OnOk result (self.new.seats ≡ self.old.seats) }
+    {
+        if self.has_read(id, reads) {
+            self.keep_again(id, outcome, reads)?;
+            return Ok(());
+        }
+        let reads = copied(self.alloc, reads)?;
+        self.keep_run(id, outcome, reads)?;
         Ok(())
     }
 

@@ -1,20 +1,53 @@
 // Computeds among the dependants of what they read.
-ghost use Rattle.std.specs.Prelude.{◌≡◌, ◌<◌, length, true, OnErr, OnOk};
+ghost use Rattle.std.specs.Prelude.{◌≡◌, ◌<◌, length, true, is_some, IfOk, OnErr, OnOk};
 ghost use Rattle.std.specs.List.{All};
 ghost use Rattle.signal_model.specs.Memos.{source_names, sources_in};
 ghost use Rattle.sig_nodes.specs.Nodes.{body_at, memo_body};
 ghost use Rattle.sig_nodes.specs.Places.{AreLinked, KeepsStanding, LinksAnew};
 
-use crate::bodies::sources_at;
+use crate::bodies::{computation_at, sources_at};
+use crate::node::Computation;
 use crate::nodes::Nodes;
 use sig_base::{NoMemory, NodeId};
 use sig_marks::Marks;
+use std::alloc::Global;
 
 // Whether these are the same ids in one order.
 fn are_same(ids: &[NodeId], others: &[NodeId]) -> bool
     ensures { result ≡ true → ids.now ≡ others.now }
 {
     ids == others
+}
+
+// Whether a computed keeps a run that read exactly these.
+fn keeps_reads(computation: &Computation, reads: &[NodeId]) -> bool
+    ensures kept { result ≡ true → is_some computation.now.memo ≡ true }
+    ensures same { result ≡ true → source_names (sources_in computation.now.memo) ≡ reads.now }
+{
+    if !computation.has_run() {
+        return false;
+    }
+    are_same(computation.sources(), reads)
+}
+
+/// The same of the computed that lives there.
+pub(crate) fn has_read(nodes: &Nodes, id: NodeId, reads: &[NodeId]) -> bool
+    ensures kept { result ≡ true → is_some (memo_body (body_at nodes.now.items id)) ≡ true }
+    ensures same { result ≡ true → source_names (sources_in (memo_body (body_at nodes.now.items id))) ≡ reads.now }
+{
+    match computation_at(nodes, id) {
+        Some(computation) => keeps_reads(computation, reads),
+        None => false,
+    }
+}
+
+/// These, in a list of their own.
+pub(crate) fn copied(alloc: Global, ids: &[NodeId]) -> Result<Vec<NodeId>, NoMemory>
+    ensures { IfOk result (λ v. v.items ≡ ids.now) }
+{
+    let mut all = Vec::with_capacity(alloc, ids.len())?;
+    all.extend_from_slice(ids)?;
+    Ok(all)
 }
 
 /// Gives a computed what it read in place of the sources that it keeps; where they are the same there is nothing to do. Without memory

@@ -10,7 +10,7 @@ ghost use Rattle.signal_model.specs.Settling.{has_outcome};
 ghost use Rattle.signal_model.specs.Changes.{memo_rewired};
 ghost use Rattle.sig_nodes.specs.States.{GoesOn};
 ghost use Rattle.sig_nodes.specs.Answers.{expression_of, host_place, IsAnswerOf, IsJudgedAnswer};
-ghost use Rattle.sig_nodes.specs.Computations.{at_generation, paired, recipe_made};
+ghost use Rattle.sig_nodes.specs.Computations.{at_generation, paired, recipe_made, renewed};
 ghost use Rattle.sig_nodes.specs.Pauses.{IsHeldOf};
 ghost use Rattle.sig_base.specs.declared.value.Known.{Known};
 ghost use Rattle.sig_formula.specs.Evaluation.{answer_of};
@@ -129,6 +129,22 @@ impl Memo {
         }
     }
 
+    // A run more of the same sources, of which these are the numbers now. It gives those of before.
+    fn renew(
+        &mut self,
+        outcome: Outcome,
+        numbers: Vec<Option<u128>>,
+        generation: u128,
+    ) -> Vec<Option<u128>>
+        requires { length numbers.items ≡ length self.old.sources }
+        ensures { self.new ≡ renewed (Some self.old) outcome numbers.items generation }
+    {
+        self.outcome = outcome;
+        self.generation = generation;
+        self.rewired = false;
+        mem::replace(&mut self.numbers, numbers)
+    }
+
     fn mark_rewired(&mut self)
         ensures { self.new ≡ record self.old { rewired = true } }
     {
@@ -136,14 +152,19 @@ impl Memo {
     }
 }
 
-/// Takes what held the numbers of a memo that is kept no more for those of another run, where there was such a memo and it had few.
+/// Takes what held the numbers of a run that is kept no more for those of another, where they were few.
+pub(crate) fn keep_room(room: &mut Vec<Option<u128>>, former: Vec<Option<u128>>) {
+    if former.capacity() <= MOST_ROOM {
+        *room = former;
+    }
+}
+
+/// The same of a memo, where there was one.
 pub(crate) fn take_room(room: &mut Vec<Option<u128>>, former: Option<Memo>) {
     let Some(memo) = former else {
         return;
     };
-    if memo.numbers.capacity() <= MOST_ROOM {
-        *room = memo.numbers;
-    }
+    keep_room(room, memo.numbers);
 }
 
 /// Whether an outcome is the fault `cycle`.
@@ -341,6 +362,34 @@ impl Computation {
     {
         self.computing = false;
         mem::replace(&mut self.memo, Some(memo))
+    }
+
+    /// Whether it keeps a run.
+    pub(crate) fn has_run(&self) -> bool
+        ensures { result ≡ is_some self.now.memo }
+    {
+        match &self.memo {
+            Some(_) => true,
+            None => false,
+        }
+    }
+
+    /// Keeps a run that read what the kept one did, by the numbers now, which ends the evaluation, and gives the numbers of before.
+    pub(crate) fn keep_again(
+        &mut self,
+        outcome: Outcome,
+        numbers: Vec<Option<u128>>,
+        generation: u128,
+    ) -> Vec<Option<u128>>
+        requires kept { is_some self.old.memo ≡ true }
+        requires numbers { length numbers.items ≡ length (sources_in self.old.memo) }
+        ensures { self.new ≡ record self.old { memo = Some (renewed self.old.memo outcome numbers.items generation); known = None } }
+    {
+        self.computing = false;
+        match &mut self.memo {
+            Some(memo) => memo.renew(outcome, numbers, generation),
+            None => unreachable!(),
+        }
     }
 
     /// Gives another recipe.

@@ -1,15 +1,16 @@
 // Edits of the nodes of a graph.
-ghost use Rattle.std.specs.Prelude.{◌≡◌, ℕ, ◌+◌, ◌<◌, ◌^◌, ◌++◌, ◌∷◌, [], List, length, take, true, false, None, Some, IfOk, IfSome, OnOk, slice_get};
+ghost use Rattle.std.specs.Prelude.{◌≡◌, ℕ, ◌+◌, ◌<◌, ◌^◌, ◌++◌, ◌∷◌, [], List, length, take, true, false, None, Some, IfOk, IfSome, OnOk, is_some, slice_get};
 ghost use Rattle.std.specs.Option.{option_copied};
+ghost use Rattle.signal_model.specs.Memos.{sources_in};
 ghost use Rattle.sig_nodes.specs.States.{GoesOn};
 ghost use Rattle.sig_nodes.specs.Answers.{expression_of, IsAnswerHere, IsJudgedAnswer};
-ghost use Rattle.sig_nodes.specs.Computations.{recipe_made};
-ghost use Rattle.sig_nodes.specs.Nodes.{body_at, change_at, changed_at, is_cell_body, is_computed_body, known_body, known_node, rewired_node, run_node, set_node, slots_body, stands_of, value_body};
+ghost use Rattle.sig_nodes.specs.Computations.{recipe_made, renewed};
+ghost use Rattle.sig_nodes.specs.Nodes.{body_at, change_at, changed_at, is_cell_body, is_computed_body, known_body, known_node, memo_body, rewired_node, run_node, set_node, slots_body, stands_of, value_body};
 
 use crate::answers::{Asked, Recipe};
 use crate::node::{Body, Memo, Node};
 use crate::nodes::Nodes;
-use sig_base::{Known, NoMemory, NodeId, Value};
+use sig_base::{Known, NoMemory, NodeId, Outcome, Value};
 use std::alloc::Global;
 use std::mem;
 
@@ -61,6 +62,46 @@ pub(crate) fn keep_memo_at(nodes: &mut Nodes, id: NodeId, memo: Memo) -> Option<
     ensures { nodes.new.items ≡ changed_at (run_node memo) id nodes.old.items }
 {
     keep_memo(nodes.node_mut(id), memo)
+}
+
+// Keeps a run of a computed's node that read what the kept one did, and gives the numbers of before.
+fn renew_memo(
+    node: &mut Node,
+    outcome: Outcome,
+    numbers: Vec<Option<u128>>,
+    generation: u128,
+) -> Vec<Option<u128>>
+    requires kept { is_some (memo_body node.old.body) ≡ true }
+    requires numbers { length numbers.items ≡ length (sources_in (memo_body node.old.body)) }
+    requires worn { node.old.number + 1 < 2 ^ 128 }
+    ensures { node.new ≡ run_node (renewed (memo_body node.old.body) outcome numbers.items generation) node.old }
+{
+    match &mut node.body {
+        Body::Computed(computation) => {
+            if !computation.has_outcome(&outcome) {
+                node.number += 1;
+            }
+            computation.keep_again(outcome, numbers, generation)
+        }
+        _ => unreachable!(),
+    }
+}
+
+/// Keeps a run of a computed that read what the kept one did, by the numbers now, which ends its evaluation, and gives the numbers of
+/// before.
+pub(crate) fn renew_memo_at(
+    nodes: &mut Nodes,
+    id: NodeId,
+    outcome: Outcome,
+    numbers: Vec<Option<u128>>,
+    generation: u128,
+) -> Vec<Option<u128>>
+    requires kept { is_some (memo_body (body_at nodes.old.items id)) ≡ true }
+    requires numbers { length numbers.items ≡ length (sources_in (memo_body (body_at nodes.old.items id))) }
+    requires worn { change_at nodes.old.items id + 1 < 2 ^ 128 }
+    ensures { nodes.new.items ≡ changed_at (run_node (renewed (memo_body (body_at nodes.old.items id)) outcome numbers.items generation)) id nodes.old.items }
+{
+    renew_memo(nodes.node_mut(id), outcome, numbers, generation)
 }
 
 // Gives a computed's node another recipe.
