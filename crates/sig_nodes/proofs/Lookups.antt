@@ -3,16 +3,17 @@ use Rattle.std.proofs.Common.{◌≡◌, ℕ, zero, suc, ◌+◌, ◌<◌, ◌==
 use Rattle.std.specs.Prelude.{slice_get, IfSome}
 use Rattle.std.proofs.lemmas.Bool.{eq-eqb}
 use Rattle.signal_model.specs.Signals.{Computed, is_in, is_there, standing}
-use Rattle.signal_model.specs.Memos.{Source, Memos, named_now, number_of, same_number, source_names, sources_in, sources_of}
+use Rattle.signal_model.specs.Memos.{Source, Memos, memo_of, named_now, number_of, same_number, source_names, sources_in, sources_of}
 use Rattle.sig_nodes.specs.declared.node.Node.{Node}
 use Rattle.sig_nodes.specs.declared.node.Body.{Body}
 use Rattle.sig_nodes.specs.declared.node.Body.TheVariants.{Gone, Cell as CellBody, Computed as ComputedBody}
-use Rattle.sig_nodes.specs.Answers.{has_moved, slots_here, some_asks, uses_host, value_here}
+use Rattle.signal_model.specs.Sound.{kept_outcome}
+use Rattle.sig_nodes.specs.Answers.{has_moved, shown_here, slots_here, some_asks, uses_host, value_here}
 use Rattle.sig_nodes.specs.Computations.{paired}
 use Rattle.sig_nodes.specs.States.{GoesOn, progress_at, State, Seen, is_given}
 use Rattle.sig_nodes.specs.Seats.{Seating, holder}
 use Rattle.sig_nodes.specs.Places.{seen, NodesAgree}
-use Rattle.sig_nodes.specs.Nodes.{asks_host_body, computed_part, parts, progress_of, some_asks_body, body_at, changed_at, is_computed_body, is_live_body, known_node, with_body_known, has_moved_body, known_body, memo_body, memos_of, number_at, signals_of, slots_body, stands_of, state_of, value_body}
+use Rattle.sig_nodes.specs.Nodes.{asks_host_body, computed_part, parts, progress_of, some_asks_body, body_at, changed_at, is_computed_body, is_live_body, known_node, with_body_known, has_moved_body, known_body, memo_body, memos_of, number_at, shown_body, signals_of, slots_body, stands_of, state_of, value_body}
 use Rattle.sig_base.specs.declared.value.Known.{Known}
 use Rattle.sig_nodes.proofs.Edits.{body_changed}
 use Rattle.sig_nodes.proofs.Parts.{memo_found, number_found, progress_found, stands}
@@ -77,6 +78,16 @@ pub value_found : (xs : List Node) (n : ℕ) → value_here (standing (signals_o
 value_found xs n = ap value_here (stands xs n) ∙ go (body_at xs n)
   where
     go : (b : Body) → value_here (stands_of n b) ≡ value_body b
+    go Gone = refl
+    go (CellBody v r) = refl
+    go (ComputedBody c) = refl
+
+-- what a signal is read as
+pub shown_found : (xs : List Node) (g n : ℕ) →
+    shown_body (body_at xs n) ≡ shown_here (standing (signals_of xs) n) (is_some (progress_at n (progress_of xs))) (kept_outcome (memo_of (memos_of g xs) n))
+shown_found xs g n = go (body_at xs n) ∙ (λ i. shown_here (sym (stands xs n) i) (is_some (sym (progress_found xs n) i)) (kept_outcome (sym (memo_found xs g n) i)))
+  where
+    go : (b : Body) → shown_body b ≡ shown_here (stands_of n b) (is_some (known_body b)) (kept_outcome (memo_body b))
     go Gone = refl
     go (CellBody v r) = refl
     go (ComputedBody c) = refl

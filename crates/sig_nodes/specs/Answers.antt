@@ -6,6 +6,8 @@ use Rattle.sig_base.specs.declared.value.Known.{Known}
 use Rattle.sig_base.specs.declared.value.Step.{Step}
 use Rattle.sig_base.specs.declared.value.Step.TheVariants.{Fail}
 use Rattle.sig_base.specs.declared.value.Fault.TheVariants as fault
+use Rattle.sig_base.specs.declared.value.Outcome.{Outcome}
+use Rattle.sig_base.specs.declared.value.Outcome.TheVariants.{Good, Bad}
 use Rattle.sig_formula.specs.Trees.{tree}
 use Rattle.signal_model.specs.Recipes as recipes
 use Rattle.signal_model.specs.Recipes.{Hosts, recipe_answer, IsJudged}
@@ -92,6 +94,17 @@ IsAnswerHere _ known a = ⊥
 abbrev pub IsJudgedAnswer : ℕ → List Known → Asked → Type 0
 IsJudgedAnswer count known (StepAsked s) = IsJudged count known s
 IsJudgedAnswer count known (HostAsked place) = Unit {0}
+
+-- what a computed is read as: what it keeps, and `cycle` while it is being evaluated or where it has never run
+abbrev pub shown_computed : Bool → Option Outcome → Outcome
+shown_computed b None = Bad fault.Cycle
+shown_computed b (Some o) = if b then Bad fault.Cycle else o
+
+-- what is read of what stands under an id, by whether it is being evaluated and by what it keeps
+abbrev pub shown_here : Stands → Bool → Option Outcome → Outcome
+shown_here IsGone b o = Bad fault.Gone
+shown_here (IsCell c) b o = Good c.value
+shown_here (IsComputed c) b o = shown_computed b o
 
 -- whether one of these computeds asks the host formula at a place
 abbrev pub some_asks : ℕ → List signals.Computed → Bool

@@ -8,7 +8,11 @@ use Rattle.signal_model.specs.Memos.{Source, Memo, Entry, Memos, same_number}
 use Rattle.signal_model.specs.Settling.{has_outcome}
 use Rattle.signal_model.specs.Changes.{memo_rewired}
 use Rattle.signal_model.specs.Asks.{is_host}
-use Rattle.sig_nodes.specs.Answers.{HasFewSlots}
+use Rattle.signal_model.specs.Sound.{kept_outcome}
+use Rattle.sig_base.specs.declared.value.Fault.TheVariants as fault
+use Rattle.sig_base.specs.declared.value.Outcome.{Outcome}
+use Rattle.sig_base.specs.declared.value.Outcome.TheVariants.{Good, Bad}
+use Rattle.sig_nodes.specs.Answers.{shown_computed, HasFewSlots}
 use Rattle.sig_nodes.specs.States.{State, Progress, with_new_cell, with_new_computed}
 use Rattle.sig_nodes.specs.declared.node.Node.{Node}
 use Rattle.sig_nodes.specs.declared.node.Body.{Body}
@@ -156,6 +160,12 @@ known_body _ = None
 abbrev pub slots_body : Body → List ℕ
 slots_body (ComputedBody c) = c.recipe.slots
 slots_body _ = []
+
+-- what a signal is read as
+abbrev pub shown_body : Body → Outcome
+shown_body Gone = Bad fault.Gone
+shown_body (CellBody v r) = Good v
+shown_body (ComputedBody c) = shown_computed (is_some c.known) (kept_outcome c.memo)
 
 -- whether a computed asks the host formula at a place
 abbrev pub asks_host_body : ℕ → Body → Bool

@@ -5,8 +5,8 @@ ghost use Rattle.signal_model.specs.Signals.{is_computed};
 ghost use Rattle.signal_model.specs.Memos.{is_stale_by, same_number, source_names, sources_in};
 ghost use Rattle.signal_model.specs.Sound.{kept_outcome};
 ghost use Rattle.sig_nodes.specs.declared.node.Body.TheVariants as body;
-ghost use Rattle.sig_nodes.specs.Answers.{host_here, kind_here, rule_here, slots_here, value_here};
-ghost use Rattle.sig_nodes.specs.Nodes.{are_live_bodies, asks_host_body, asks_host_here, body_at, change_at, has_moved_body, is_computed_body, is_live_body, known_body, memo_body, number_at, number_body, seat_at, slots_body, stands_of};
+ghost use Rattle.sig_nodes.specs.Answers.{host_here, kind_here, rule_here, shown_computed, slots_here, value_here};
+ghost use Rattle.sig_nodes.specs.Nodes.{are_live_bodies, asks_host_body, asks_host_here, body_at, change_at, has_moved_body, is_computed_body, is_live_body, known_body, memo_body, number_at, number_body, seat_at, shown_body, slots_body, stands_of};
 ghost use Rattle.sig_nodes.specs.Computations.{at_generation};
 ghost use Rattle.sig_nodes.specs.Search.{of_holder, some_holder};
 
@@ -14,7 +14,7 @@ use crate::answers::Standing;
 use crate::node::{Body, Computation, Node, Source};
 use crate::nodes::Nodes;
 use crate::seats::Seats;
-use sig_base::{NoMemory, NodeId, Outcome, Value};
+use sig_base::{Fault, NoMemory, NodeId, Outcome, Value};
 
 /// What lives at a place, none past the last place.
 pub(crate) fn body_at(nodes: &Nodes, id: NodeId) -> Option<&Body>
@@ -204,6 +204,50 @@ pub(crate) fn kept_at(nodes: &Nodes, id: NodeId) -> Option<&Outcome>
     match body_at(nodes, id) {
         Some(Body::Computed(computation)) => computation.kept(),
         _ => None,
+    }
+}
+
+// What a computed that isn't being evaluated is read as.
+fn kept_or_cycle(computation: &Computation) -> Result<Outcome, NoMemory>
+    ensures { IfOk result (λ o. o ≡ shown_computed false (kept_outcome computation.now.memo)) }
+{
+    match computation.kept() {
+        Some(outcome) => outcome.copy(),
+        None => Ok(Outcome::Bad(Fault::Cycle)),
+    }
+}
+
+// What a computed is read as.
+fn shown_computed(computation: &Computation) -> Result<Outcome, NoMemory>
+    ensures { IfOk result (λ o. o ≡ shown_computed (is_some computation.now.known) (kept_outcome computation.now.memo)) }
+{
+    if computation.is_computing() {
+        return Ok(Outcome::Bad(Fault::Cycle));
+    }
+    kept_or_cycle(computation)
+}
+
+// What a body is read as.
+fn shown(body: &Body) -> Result<Outcome, NoMemory>
+    ensures { IfOk result (λ o. o ≡ shown_body body.now) }
+{
+    match body {
+        Body::Gone => Ok(Outcome::Bad(Fault::Gone)),
+        Body::Cell(value, _) => {
+            let same = value.copy()?;
+            Ok(Outcome::Good(same))
+        }
+        Body::Computed(computation) => shown_computed(computation),
+    }
+}
+
+/// What a signal is read as.
+pub(crate) fn shown_at(nodes: &Nodes, id: NodeId) -> Result<Outcome, NoMemory>
+    ensures { IfOk result (λ o. o ≡ shown_body (body_at nodes.now.items id)) }
+{
+    match body_at(nodes, id) {
+        Some(body) => shown(body),
+        None => Ok(Outcome::Bad(Fault::Gone)),
     }
 }
 

@@ -1,5 +1,5 @@
 // What a graph answers without changing.
-ghost use Rattle.std.specs.Prelude.{ℕ, ◌≡◌, ◌+◌, ◌<◌, ◌^◌, true, false, Some, IfSome, slice_get};
+ghost use Rattle.std.specs.Prelude.{ℕ, ◌≡◌, ◌+◌, ◌<◌, ◌^◌, true, false, Some, IfOk, IfSome, slice_get};
 ghost use Rattle.std.specs.Option.{option_copied};
 ghost use Rattle.signal_model.specs.Signals.{is_computed, is_in, is_there, standing};
 ghost use Rattle.signal_model.specs.Memos.{keeps, memo_of, source_names, sources_of};
@@ -8,16 +8,17 @@ ghost use Rattle.signal_model.specs.Sound.{kept_outcome};
 ghost use Rattle.signal_model.specs.Changes.{live_count};
 ghost use Rattle.signal_model.specs.Laws.{AreDistinct};
 ghost use Rattle.sig_marks.specs.Tables.{dependants_at};
-ghost use Rattle.sig_nodes.specs.Answers.{kind_here, rule_here, slots_here, uses_host, value_here, HaveFewSlots};
+ghost use Rattle.sig_nodes.specs.Answers.{kind_here, rule_here, shown_here, slots_here, uses_host, value_here, HaveFewSlots};
 ghost use Rattle.sig_nodes.specs.Seats.{holder, AreAllSeated};
 ghost use Rattle.sig_nodes.specs.States.{is_computing, is_given};
 
 use crate::answers::Standing;
 use crate::bodies::{
-    kept_at, rule_at, seat_at, slot_at, slots_at, sources_at, standing_at, uses_host, value_at,
+    kept_at, rule_at, seat_at, shown_at, slot_at, slots_at, sources_at, standing_at, uses_host,
+    value_at,
 };
 use crate::graph::Graph;
-use sig_base::{MOST_NODES, NodeId, Outcome, Value};
+use sig_base::{MOST_NODES, NoMemory, NodeId, Outcome, Value};
 
 impl Graph {
     /// How many signals live.
@@ -113,6 +114,14 @@ impl Graph {
         ensures { option_copied result ≡ kept_outcome (memo_of self.now.state.memos id) }
     {
         kept_at(&self.nodes, id)
+    }
+
+    /// What a signal is read as: a cell's value, what a computed keeps, or `gone`; of a computed that is being evaluated, or has never run,
+    /// `cycle`.
+    pub fn shown(&self, id: NodeId) -> Result<Outcome, NoMemory>
+        ensures { IfOk result (λ o. o ≡ shown_here (standing self.now.state.signals id) (is_computing self.now.state id) (kept_outcome (memo_of self.now.state.memos id))) }
+    {
+        shown_at(&self.nodes, id)
     }
 
     /// The sources that a computed keeps, in order of first reading.

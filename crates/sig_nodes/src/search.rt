@@ -43,16 +43,15 @@ fn next_below(nodes: &Nodes, marks: &Marks, reached: &Reached, id: NodeId) -> Op
 }
 
 // Goes to a computed, whose seat is reached from then on.
-fn go_to(nodes: &Nodes, id: NodeId, reached: &mut Reached, trail: &mut Trail)
-    requires live { is_computed_body (body_at nodes.now.items id) ≡ true }
-    requires seats { AreSeated nodes.now.items MOST_NODES }
-    requires fresh { is_in (seat_at nodes.now.items id) reached.old ≡ false }
+fn go_to(id: NodeId, seat: usize, reached: &mut Reached, trail: &mut Trail)
+    requires inside { seat < MOST_NODES }
+    requires fresh { is_in seat reached.old ≡ false }
     requires room { length trail.old ≤ length reached.old }
-    ensures reached { reached.new ≡ reached.old ++ seat_at nodes.now.items id ∷ [] }
+    ensures reached { reached.new ≡ reached.old ++ seat ∷ [] }
     ensures trail { trail.new ≡ id ∷ trail.old }
     ensures room { length reached.new ≤ MOST_NODES }
 {
-    reached.add(seat_at(nodes, id));
+    reached.add(seat);
     trail.enter(id);
 }
 
@@ -86,9 +85,10 @@ fn turn(
     let Some(next) = next_below(nodes, marks, reached, id) else {
         return false;
     };
+    let seat = seat_at(nodes, next);
     trail.enter(id);
-    go_to(nodes, next, reached, trail);
-    is_told(nodes, generation, worn, next, seat_at(nodes, next), finds)
+    go_to(next, seat, reached, trail);
+    is_told(nodes, generation, worn, next, seat, finds)
 }
 
 // Goes on from where the search is, and tells whether it comes to what must run. The trail leads there then, and else is empty.
@@ -147,7 +147,7 @@ fn begin(nodes: &Nodes, id: NodeId, reached: &mut Reached, trail: &mut Trail)
 {
     reached.clear();
     trail.clear();
-    go_to(nodes, id, reached, trail);
+    go_to(id, seat_at(nodes, id), reached, trail);
 }
 
 // Whether something below a computed that needn't run itself must run. What it found is noted by seat, with the count of changes at which it
