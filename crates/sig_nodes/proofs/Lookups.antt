@@ -110,6 +110,15 @@ asked_live Gone known h = absurd h
 asked_live (CellBody v r) known h = absurd h
 asked_live (ComputedBody c) known h = refl
 
+-- what is no computed keeps nothing
+pub keeps_nothing : (xs : List Node) (n : ℕ) → is_computed_body (body_at xs n) ≡ false → memo_body (body_at xs n) ≡ None
+keeps_nothing xs n = go (body_at xs n)
+  where
+    go : (b : Body) → is_computed_body b ≡ false → memo_body b ≡ None
+    go Gone h = refl
+    go (CellBody v r) h = refl
+    go (ComputedBody c) h = cc
+
 -- what keeps a run lives
 pub kept_live : (b : Body) → is_some (memo_body b) ≡ true → is_live_body b ≡ true
 kept_live Gone h = h

@@ -2,7 +2,7 @@
 ghost use Rattle.std.specs.Prelude.{◌≡◌, ◌<◌, ◌∷◌, ◌||◌, ◌&&◌, not, map, is_some, true, false, None, Some, IfOk, IfSome, IfNone, slice_get};
 ghost use Rattle.std.specs.Option.{option_copied};
 ghost use Rattle.signal_model.specs.Signals.{is_computed};
-ghost use Rattle.signal_model.specs.Memos.{is_stale_by, same_number, source_names, sources_in};
+ghost use Rattle.signal_model.specs.Memos.{is_stale_by, memo_is_cycle, same_number, source_names, sources_in};
 ghost use Rattle.signal_model.specs.Sound.{kept_outcome};
 ghost use Rattle.sig_nodes.specs.declared.node.Body.TheVariants as body;
 ghost use Rattle.sig_nodes.specs.Answers.{host_here, kind_here, rule_here, shown_computed, slots_here, value_here};
@@ -348,6 +348,33 @@ fn source_moved(nodes: &Nodes, name: NodeId, number: Option<u128>) -> bool
     match nodes.at(name) {
         Some(node) => node_moved(node, number),
         None => !same_number(None, number),
+    }
+}
+
+// Whether a computed's kept source at a place has moved, none where it holds `cycle`.
+fn compared(nodes: &Nodes, computation: &Computation, place: usize) -> Option<bool>
+    ensures calm { IfSome result (λ m. memo_is_cycle computation.now.memo ≡ false) }
+    ensures moved { IfSome result (λ m. m ≡ has_moved_body nodes.now.items (slice_get (sources_in computation.now.memo) place)) }
+    ensures cycle { IfNone result (memo_is_cycle computation.now.memo ≡ true) }
+{
+    if computation.holds_cycle() {
+        return None;
+    }
+    match computation.source(place) {
+        Some(source) => Some(source_moved(nodes, source.name, source.number)),
+        None => Some(false),
+    }
+}
+
+/// The same of the computed that lives there.
+pub(crate) fn compared_at(nodes: &Nodes, id: NodeId, place: usize) -> Option<bool>
+    ensures calm { IfSome result (λ m. memo_is_cycle (memo_body (body_at nodes.now.items id)) ≡ false) }
+    ensures moved { IfSome result (λ m. m ≡ has_moved_body nodes.now.items (slice_get (sources_in (memo_body (body_at nodes.now.items id))) place)) }
+    ensures cycle { IfNone result (memo_is_cycle (memo_body (body_at nodes.now.items id)) ≡ true) }
+{
+    match computation_at(nodes, id) {
+        Some(computation) => compared(nodes, computation, place),
+        None => Some(false),
     }
 }
 

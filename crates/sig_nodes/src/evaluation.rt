@@ -1,13 +1,13 @@
 // The calls of an evaluation.
-ghost use Rattle.std.specs.Prelude.{◌≡◌, ◌<◌, [], length, take, true, false, None, Some, IfOk, IfSome, OnOk, is_some, slice_get};
+ghost use Rattle.std.specs.Prelude.{◌≡◌, ◌<◌, ◌&&◌, not, if◌then◌else◌, [], length, take, true, false, None, Some, IfOk, IfSome, OnOk, is_some, slice_get};
 ghost use Rattle.std.specs.List.{All};
 ghost use Rattle.signal_model.specs.Signals.{is_computed, standing};
-ghost use Rattle.signal_model.specs.Memos.{is_stale, memo_of, source_names, sources_of};
+ghost use Rattle.signal_model.specs.Memos.{holds_cycle, is_stale, memo_of, source_names, sources_of};
 ghost use Rattle.sig_nodes.specs.Answers.{has_moved, slots_here, IsAnswerHere, IsJudgedAnswer};
 ghost use Rattle.sig_nodes.specs.States.{counted, is_computing, is_given, progress_at, with_kept_run, with_look, with_progress, Becomes, CanWear, GoesOn};
 
 use crate::answers::Asked;
-use crate::bodies::{is_stale_at, moved_at, numbers_now};
+use crate::bodies::{compared_at, is_stale_at, moved_at, numbers_now};
 use crate::end_marks::{end_mark, run_unmarks, stop_unmarks};
 use crate::graph::Graph;
 use crate::links::{copied, has_read, relink};
@@ -28,6 +28,20 @@ pub(crate) fn counted(looked: u128) -> u128
 }
 
 impl Graph {
+    // Begins the evaluation of a computed, and tells whether it is stale, as `stale` does.
+    fn begun_stale(&mut self, id: NodeId) -> bool
+        requires live { is_computed (standing self.old.state.signals id) ≡ true }
+        requires idle { is_computing self.old.state id ≡ false }
+        ensures stale { result ≡ is_stale self.old.state.memos id }
+        ensures after { Becomes self.old self.new (with_progress self.old.state id (Some [])) }
+        ensures begun { progress_at id self.new.state.progress ≡ Some [] }
+        ensures seats { self.new.seats ≡ self.old.seats }
+    {
+        let _count = self.nodes.made();
+        self.marks.push(id);
+        begin_at(&mut self.nodes, self.generation, id)
+    }
+
     /// Begins the evaluation of a computed, which is computing from then on.
     pub fn begin(&mut self, id: NodeId)
         requires live { is_computed (standing self.old.state.signals id) ≡ true }
@@ -36,9 +50,21 @@ impl Graph {
         ensures begun { progress_at id self.new.state.progress ≡ Some [] }
         ensures seats { self.new.seats ≡ self.old.seats }
     {
-        let _count = self.nodes.made();
-        self.marks.push(id);
-        begin_at(&mut self.nodes, id);
+        let _stale = self.begun_stale(id);
+    }
+
+    /// Begins the evaluation of a computed, and tells whether it is stale, as `begin` and `stale` do in turn. It is a counted step.
+    pub fn begin_stale(&mut self, id: NodeId) -> bool
+        requires live { is_computed (standing self.old.state.signals id) ≡ true }
+        requires idle { is_computing self.old.state id ≡ false }
+        ensures stale { result ≡ is_stale self.old.state.memos id }
+        ensures after { Becomes self.old self.new (with_look (with_progress self.old.state id (Some []))) }
+        ensures begun { progress_at id self.new.state.progress ≡ Some [] }
+        ensures seats { self.new.seats ≡ self.old.seats }
+    {
+        let stale = self.begun_stale(id);
+        self.looked = counted(self.looked);
+        stale
     }
 
     /// The answer of a computed's recipe to the values known so far, which begin with those of the last such call of this
@@ -77,6 +103,22 @@ impl Graph {
     {
         self.looked = counted(self.looked);
         moved_at(&self.nodes, id, place)
+    }
+
+    /// Whether a computed doesn't hold `cycle`, and its kept source at a place has moved, as `moved` tells, which is a counted step.
+    pub fn compare(&mut self, id: NodeId, place: usize) -> bool
+        requires { place < length (sources_of self.old.state.memos id) }
+        ensures moved { result ≡ (not (holds_cycle self.old.state.memos id) && has_moved self.old.state (slice_get (sources_of self.old.state.memos id) place)) }
+        ensures after { Becomes self.old self.new (if holds_cycle self.old.state.memos id then self.old.state else with_look self.old.state) }
+        ensures seats { self.new.seats ≡ self.old.seats }
+    {
+        match compared_at(&self.nodes, id, place) {
+            Some(moved) => {
+                self.looked = counted(self.looked);
+                moved
+            }
+            None => false,
+        }
     }
 
     /// Ends an evaluation with a run: the computed keeps its outcome, and what it read with the present numbers. Its own number

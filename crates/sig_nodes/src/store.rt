@@ -1,10 +1,10 @@
 // Edits of the nodes of a graph.
 ghost use Rattle.std.specs.Prelude.{◌≡◌, ℕ, ◌+◌, ◌<◌, ◌^◌, ◌++◌, ◌∷◌, [], List, length, take, true, false, None, Some, IfOk, IfSome, OnOk, is_some, slice_get};
 ghost use Rattle.std.specs.Option.{option_copied};
-ghost use Rattle.signal_model.specs.Memos.{sources_in};
+ghost use Rattle.signal_model.specs.Memos.{is_stale_by, sources_in};
 ghost use Rattle.sig_nodes.specs.States.{GoesOn};
 ghost use Rattle.sig_nodes.specs.Answers.{expression_of, IsAnswerHere, IsJudgedAnswer};
-ghost use Rattle.sig_nodes.specs.Computations.{recipe_made, renewed};
+ghost use Rattle.sig_nodes.specs.Computations.{at_generation, recipe_made, renewed};
 ghost use Rattle.sig_nodes.specs.Nodes.{body_at, change_at, changed_at, is_cell_body, is_computed_body, known_body, known_node, memo_body, rewired_node, run_node, set_node, slots_body, stands_of, value_body};
 
 use crate::answers::{Asked, Recipe};
@@ -126,23 +126,28 @@ pub(crate) fn rewire_at(nodes: &mut Nodes, id: NodeId, recipe: Recipe, slots: Ve
     rewire(nodes.node_mut(id), recipe, slots);
 }
 
-// Begins the evaluation of a computed's node.
-fn begin(node: &mut Node)
+// Begins the evaluation of a computed's node, and tells whether it has to run whatever its sources are.
+fn begin(node: &mut Node, generation: u128) -> bool
     requires { is_computed_body node.old.body ≡ true }
-    ensures { node.new ≡ known_node (Some []) node.old }
+    ensures node { node.new ≡ known_node (Some []) node.old }
+    ensures stale { result ≡ is_stale_by (at_generation generation) (memo_body node.old.body) }
 {
     match &mut node.body {
-        Body::Computed(computation) => computation.begin(),
+        Body::Computed(computation) => {
+            computation.begin();
+            computation.is_stale(generation)
+        }
         _ => unreachable!(),
     }
 }
 
-/// Begins the evaluation of a computed.
-pub(crate) fn begin_at(nodes: &mut Nodes, id: NodeId)
+/// Begins the evaluation of a computed, and tells whether it has to run whatever its sources are.
+pub(crate) fn begin_at(nodes: &mut Nodes, generation: u128, id: NodeId) -> bool
     requires { is_computed_body (body_at nodes.old.items id) ≡ true }
-    ensures { nodes.new.items ≡ changed_at (known_node (Some [])) id nodes.old.items }
+    ensures nodes { nodes.new.items ≡ changed_at (known_node (Some [])) id nodes.old.items }
+    ensures stale { result ≡ is_stale_by (at_generation generation) (memo_body (body_at nodes.old.items id)) }
 {
-    begin(nodes.node_mut(id));
+    begin(nodes.node_mut(id), generation)
 }
 
 // Ends the evaluation of a computed's node.

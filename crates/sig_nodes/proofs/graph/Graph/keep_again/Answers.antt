@@ -1,4 +1,4 @@
-use Rattle.std.proofs.Common.{◌≡◌, ◌+◌, ◌<◌, true, refl, ℕ, List, Bool, is_some, length, map, sym, ap, ◌∙◌, subst}
+use Rattle.std.proofs.Common.{◌+◌, ◌<◌, refl, ℕ, List, is_some, length, map, sym, ap, ◌∙◌, subst}
 use Rattle.std.specs.List.{All}
 use Rattle.signal_model.specs.Memos.{Memo, memo_of, named_now, source_names, sources_in, sources_of}
 use Rattle.mark_laws.specs.Marked.{ended}

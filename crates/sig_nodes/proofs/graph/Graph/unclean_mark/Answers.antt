@@ -1,4 +1,4 @@
-use Rattle.std.proofs.Common.{◌≡◌, false, sym, ap, ◌∙◌}
+use Rattle.std.proofs.Common.{sym, ap, ◌∙◌}
 use Rattle.signal_model.specs.Signals.{is_computed, standing}
 use Rattle.signal_model.specs.Marks.{mark_of}
 use Rattle.sig_nodes.specs.Looks.{is_clean_mark}
