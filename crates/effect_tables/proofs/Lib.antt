@@ -17,4 +17,6 @@ mod Turns
 mod Commands
 mod Visits
 mod TurnByTurn
+mod Marks
+mod Hearing
 pub mod Shared

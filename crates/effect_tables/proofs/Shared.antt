@@ -25,3 +25,5 @@ pub use Rattle.effect_tables.proofs.Visits.{turn_world, turn_ran, look_found, lo
 pub use Rattle.effect_tables.proofs.Visits.{glance_rests, rerun_rests, visit_rests, visits_rest, glances_rest, turns_so_far_rest, last_rests, body_rests}
 -- flushes
 pub use Rattle.effect_tables.proofs.TurnByTurn.{at_start, goes_on, at_end}
+-- what is known of effects that need no look
+pub use Rattle.effect_tables.proofs.Hearing.{heard_heard, kept_heard, none_heard, same_heard, set_heard}

@@ -11,3 +11,4 @@ pub mod Makings
 pub mod Roots
 pub mod Visits
 pub mod Turned
+pub mod Heard

@@ -5,6 +5,7 @@
 
 mod creation;
 mod effect;
+mod heard;
 mod laws;
 mod links;
 mod looks;
@@ -16,6 +17,7 @@ mod tables;
 mod thing;
 
 pub use effect::{Effect, MOST_STATEMENTS, Script, Site};
+pub use heard::Heard;
 pub use laws::{resting_law, visiting_law};
 pub use links::{Links, Slots, Target};
 pub use lookup::{effect_at, effect_place};
