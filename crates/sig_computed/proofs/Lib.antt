@@ -2,6 +2,7 @@ mod Progresses
 mod Sources
 mod Leaves
 mod Looks
+mod Asides
 mod Wholes
 mod Measure
 mod Asks

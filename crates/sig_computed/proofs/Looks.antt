@@ -17,10 +17,7 @@ use Rattle.sig_computed.specs.Steps.{LookedAt, Move, Needs, Stops, Waiting, deci
 use Rattle.sig_computed.specs.Skips.{clean_among, compare_steps, is_clean, look_steps, passed_over, source_steps}
 use Rattle.sig_computed.proofs.Skips.{among_clean, clean_found}
 use Rattle.signal_model.specs.Marks as marks
-use Rattle.sig_nodes.specs.declared.queries.Look.TheVariants as look
-use Rattle.sig_nodes.specs.declared.answers.Standing.TheVariants as kind
-use Rattle.sig_nodes.specs.Answers.{kind_here}
-use Rattle.sig_nodes.specs.Looks.{look_here}
+use Rattle.sig_nodes.specs.Looks.{is_clean_mark}
 use Rattle.sig_nodes.specs.States as states
 use Rattle.sig_nodes.specs.States.{Progress, is_given, progress_at}
 use Rattle.sig_computed.specs.Views.{first_moved, first_name, evaluating, or_cycle, passing, Stays}
@@ -137,30 +134,11 @@ read_given g slot m (Bad e) known reads all on =
     All-append (λ (r : Seen). is_given g r.name ≡ true) reads (record { name = m; outcome = Bad e } ∷ []) all
     (All-cons (λ (r : Seen). is_given g r.name ≡ true) (record { name = m; outcome = Bad e }) [] on (All-nil (λ (r : Seen). is_given g r.name ≡ true)))
 
--- what is answered as a computed isn't being evaluated
-pub kind_idle : (st : Stands) (b : Bool) → kind.Computed ≡ kind_here st b → b ≡ false
-kind_idle IsGone b e = cc
-kind_idle (IsCell c) b e = cc
-kind_idle (IsComputed c) true e = cc
-kind_idle (IsComputed c) false e = refl
-
--- what a look finds clean is
-pub found_clean : (st : Stands) (b : Bool) (m : marks.Mark) → is_computed st ≡ true → b ≡ false → look.Clean ≡ look_here st b m → true ≡ is_clean m
-found_clean IsGone b m live idle e = cc
-found_clean (IsCell c) b m live idle e = cc
-found_clean (IsComputed c) true m live idle e = cc
-found_clean (IsComputed c) false marks.Clean live idle e = refl
-found_clean (IsComputed c) false marks.Checked live idle e = cc
-found_clean (IsComputed c) false marks.Dirty live idle e = cc
-
--- and what it finds otherwise isn't
-pub found_other : (st : Stands) (b : Bool) (m : marks.Mark) → is_computed st ≡ true → b ≡ false → (look_here st b m ≡ look.Clean → ⊥) → false ≡ is_clean m
-found_other IsGone b m live idle isnt = cc live
-found_other (IsCell c) b m live idle isnt = cc live
-found_other (IsComputed c) true m live idle isnt = cc idle
-found_other (IsComputed c) false marks.Clean live idle isnt = absurd (isnt refl)
-found_other (IsComputed c) false marks.Checked live idle isnt = refl
-found_other (IsComputed c) false marks.Dirty live idle isnt = refl
+-- a mark that the graph finds clean
+pub marked_clean : (m : marks.Mark) → is_clean_mark m ≡ is_clean m
+marked_clean marks.Clean = refl
+marked_clean marks.Checked = refl
+marked_clean marks.Dirty = refl
 
 -- who is found once one more was put in
 pub one_more : (n m : ℕ) (rest : Bool) → cond (n == m) true rest ≡ (m == n || rest)

@@ -14,9 +14,10 @@ use Rattle.sig_nodes.specs.States as states
 use Rattle.sig_nodes.specs.States.{is_given}
 use Rattle.sig_computed.specs.Steps.{Frame, Move, GoesOn, Needs, Stops, Ends, frame_names}
 use Rattle.sig_computed.specs.declared.frames.Open.{Open}
+use Rattle.sig_computed.specs.declared.frames.Outer.{Outer}
 use Rattle.sig_computed.specs.declared.notes.RunNote.{RunNote}
 use Rattle.sig_computed.specs.Notes.{Note, note_of, AreNotesGiven}
-use Rattle.sig_computed.specs.Views.{evaluating, frame_of, tops, Stays}
+use Rattle.sig_computed.specs.Views.{evaluating, frame_of, outer_of, tops, Stays}
 use Rattle.sig_computed.specs.Asked.{places_by, AreThere, CanAsk}
 use Rattle.sig_computed.specs.Turns.{memos_after, move_by, move_reads, move_steps, notes_of, progress_by, runs_of, stack_after, turn_steps, visited_after, AreReadsGiven, IsMove, IsMoved}
 use Rattle.sig_computed.proofs.Asks.{can_ask, move_asked, move_counts, phase_asked, phase_asks, places_count, step_asked, HasAsked}
@@ -25,11 +26,11 @@ use Rattle.sig_computed.proofs.Measure.{work, turn_lowers}
 use Rattle.sig_computed.proofs.Wholes.{IsWhole, step_whole}
 
 -- the host formula of a frame can be asked
-pub frame_can : (start g : states.Seen) (f : Open) (fs : List Open) (n : ℕ) (old new : List HostPlace) (before after : ℕ) → g.state.signals ≡ start.state.signals →
+pub frame_can : (start g : states.Seen) (f : Open) (fs : List Outer) (n : ℕ) (old new : List HostPlace) (before after : ℕ) → g.state.signals ≡ start.state.signals →
     HaveFewSlots start.state.signals → HasStack g (frame_of f ∷ tops fs) → AreThere start.state.signals old → most_asked old < 2 ^ 127 → length fs < 2 ^ 64 → after < 2 ^ 64 →
     HasAsked start.state.signals old new before after (frame_of f ∷ tops fs) → CanAsk (host_here (standing g.state.signals n)) new
 frame_can start g f fs n old new before after signals slots frames are room few notes h =
-    let a : length (tops fs) ≡ length (reverse fs) = length-map (reverse fs) frame_of in
+    let a : length (tops fs) ≡ length (reverse fs) = length-map (reverse fs) outer_of in
     let b : length (reverse fs) ≡ length fs = length-reverse fs in
     can_ask g old new n before after (frame_of f ∷ tops fs) (subst HaveFewSlots (sym signals) slots) frames.fits (subst (λ w. AreThere w old) (sym signals) are) room
     (omega (arith, a, b, few)) notes (subst (λ w. HasAsked w old new before after (frame_of f ∷ tops fs)) (sym signals) h)

@@ -14,7 +14,9 @@ use Rattle.sig_computed.specs.declared.frames.Read.{Read}
 use Rattle.sig_computed.specs.declared.frames.Learnt.{Learnt}
 use Rattle.sig_computed.specs.declared.frames.Doing.{Doing}
 use Rattle.sig_computed.specs.declared.frames.Doing.TheVariants as doing
+use Rattle.std.specs.declared.boxed.Box.{Box}
 use Rattle.sig_computed.specs.declared.frames.Open.{Open}
+use Rattle.sig_computed.specs.declared.frames.Outer.{Outer}
 use Rattle.sig_computed.specs.declared.frames.Turn.{Turn}
 use Rattle.sig_computed.specs.declared.frames.Turn.TheVariants as turn
 
@@ -33,6 +35,22 @@ phase_of (doing.Waiting slot) l = Waiting slot l.known.items (map seen_of l.read
 abbrev pub frame_of : Open → Frame
 frame_of f = record { name = f.id; phase = phase_of f.doing f.learnt }
 
+-- what a computed is doing that has learnt nothing
+abbrev pub blank_phase : Doing → Phase
+blank_phase (doing.Looking place) = Looking place
+blank_phase (doing.LookedAt place) = LookedAt place
+blank_phase doing.Running = Running [] []
+blank_phase (doing.Waiting slot) = Waiting slot [] []
+
+-- what a computed that waits is doing, by what it has learnt, if anything
+abbrev pub outer_phase : {Z : Type 0} → Doing → Option (Box Learnt Z) → Phase
+outer_phase d None = blank_phase d
+outer_phase d (Some l) = phase_of d l.value
+
+-- the frame of one that waits
+abbrev pub outer_of : Outer → Frame
+outer_of f = record { name = f.id; phase = outer_phase f.doing f.learnt }
+
 -- a run that has come to its end
 abbrev pub evaluation_of : List Read → Outcome → Evaluation
 evaluation_of rs o = record { reads = map seen_of rs; outcome = o }
@@ -40,13 +58,13 @@ evaluation_of rs o = record { reads = map seen_of rs; outcome = o }
 -- what a step comes to that leaves a frame as it is
 abbrev pub move_of : Turn → Open → Move
 move_of turn.GoesOn f = GoesOn (phase_of f.doing f.learnt)
-move_of (turn.Needs id) f = Needs id (phase_of f.doing f.learnt)
+move_of turn.Needs f = Needs f.needed (phase_of f.doing f.learnt)
 move_of turn.Stops f = Stops
-move_of (turn.Ends o) f = Ends (evaluation_of f.learnt.reads.items o)
+move_of turn.Ends f = Ends (evaluation_of f.learnt.reads.items f.outcome)
 
--- the frames of a stack, the innermost first
-abbrev pub tops : List Open → List Frame
-tops fs = map frame_of (reverse fs)
+-- the frames that wait, the innermost first
+abbrev pub tops : List Outer → List Frame
+tops fs = map outer_of (reverse fs)
 
 -- the frames with the innermost one, where one is left
 abbrev pub held : Bool → Open → List Frame → List Frame

@@ -14,18 +14,18 @@ ghost use Rattle.sig_computed.specs.Scenes.{scene, CanSettle, Settles};
 ghost use Rattle.sig_computed.specs.Views.{evaluating, evaluation_of, frame_of, held, move_of, progressed, seen_of, tops, Stays};
 ghost use Rattle.sig_computed.specs.Turns.{evaluation_note, first_stack, notes_of, stack_after, visited_after, AreReadsGiven, CanMove, HasFirst, IsKept, IsMoved};
 
-use crate::frames::{Doing, Learnt, Open, Read, Turn, begin_run, go_in, go_out};
+use crate::frames::{Doing, Open, Outer, Read, Turn, begin_run, go_in, go_out};
 use crate::notes::RunNote;
 use crate::turns::{is_clean, outcome_as, outcome_of, turn_of};
 use crate::visited::Visited;
-use sig_base::{NoMemory, NodeId, Outcome};
+use sig_base::{Fault, NoMemory, NodeId, Outcome};
 use sig_host::{Lent, Shelf};
 use sig_nodes::{Graph, Standing};
 use std::alloc::Global;
 use std::mem;
 
 // Begins the evaluation of a computed: what is stale runs, and all else looks first.
-fn begin(graph: &mut Graph, spare: &mut Learnt, frame: &mut Open)
+fn begin(graph: &mut Graph, frame: &mut Open)
     requires live { is_computed (standing graph.old.state.signals frame.old.id) ≡ true }
     requires idle { is_computing graph.old.state frame.old.id ≡ false }
     ensures frame { frame_of frame.new ≡ new_frame graph.old.state.memos frame.old.id }
@@ -34,7 +34,7 @@ fn begin(graph: &mut Graph, spare: &mut Learnt, frame: &mut Open)
 {
     graph.begin(frame.id);
     if graph.stale(frame.id) {
-        begin_run(frame, spare);
+        begin_run(frame);
         return;
     }
     frame.doing = Doing::Looking(0);
@@ -114,10 +114,9 @@ fn keep(
 fn apply(
     alloc: Global,
     graph: &mut Graph,
-    stack: &mut Vec<Open>,
+    stack: &mut Vec<Outer>,
     visited: &mut Visited,
     notes: &mut Vec<RunNote>,
-    spare: &mut Learnt,
     frame: &mut Open,
     turn: Turn,
 ) -> Result<bool, NoMemory>
@@ -131,10 +130,9 @@ fn apply(
 {
     match turn {
         Turn::GoesOn => Ok(true),
-        Turn::Needs(id) => {
-            let mut inner = Open::new(alloc, id);
-            begin(graph, spare, &mut inner);
-            go_in(stack, frame, inner)?;
+        Turn::Needs => {
+            go_in(alloc, stack, frame)?;
+            begin(graph, frame);
             Ok(true)
         }
         Turn::Stops => {
@@ -142,17 +140,17 @@ fn apply(
             visited.add(frame.id)?;
             Ok(go_out(stack, frame))
         }
-        Turn::Ends(outcome) => {
+        Turn::Ends => {
+            let outcome = mem::replace(&mut frame.outcome, Outcome::Bad(Fault::Cycle));
             keep(alloc, graph, notes, frame.id, &frame.learnt.reads, outcome)?;
             visited.add(frame.id)?;
-            mem::swap(&mut frame.learnt, spare);
             Ok(go_out(stack, frame))
         }
     }
 }
 
 // Begins with the computed that is asked for, where it isn't clean. Whether it isn't.
-fn first(graph: &mut Graph, spare: &mut Learnt, frame: &mut Open) -> bool
+fn first(graph: &mut Graph, frame: &mut Open) -> bool
     requires live { is_computed (standing graph.old.state.signals frame.old.id) ≡ true }
     requires idle { IsIdle graph.old.state }
     ensures stack { held result frame.new [] ≡ first_stack graph.old.state.signals graph.old.state.memos frame.old.id }
@@ -161,12 +159,12 @@ fn first(graph: &mut Graph, spare: &mut Learnt, frame: &mut Open) -> bool
     if is_clean(graph, frame.id) {
         return false;
     }
-    begin(graph, spare, frame);
+    begin(graph, frame);
     true
 }
 
 // Settles a computed. Its clauses are those of settling any signal, but for the value, which is told as what the computed shows then. It
-// stands apart since what is no computed, needs no frames.
+// stands apart since what is no computed needs no frames.
 #[inline(never)]
 fn bring_up(
     graph: &mut Graph,
@@ -192,19 +190,17 @@ fn bring_up(
     let _made = graph.made();
     let alloc = *notes.allocator();
     let mut visited = Visited::new(alloc);
-    let mut spare = Learnt::new(alloc);
     let mut stack = Vec::new(alloc);
     let mut frame = Open::new(alloc, id);
-    let mut going = first(graph, &mut spare, &mut frame);
+    let mut going = first(graph, &mut frame);
     while going {
-        let turn = turn_of(alloc, graph, shelf, &visited, &mut spare, &mut frame)?;
+        let turn = turn_of(alloc, graph, shelf, &visited, &mut frame)?;
         going = apply(
             alloc,
             graph,
             &mut stack,
             &mut visited,
             notes,
-            &mut spare,
             &mut frame,
             turn,
         )?;

@@ -13,25 +13,21 @@ ghost use Rattle.sig_computed.specs.Views.{evaluating, first_moved, first_name, 
 ghost use Rattle.sig_computed.specs.Asked.{asked_once, places_by, CanAsk};
 ghost use Rattle.sig_computed.specs.Turns.{move_by, move_reads, progress_by, turn_steps, waits, AreReadsGiven, Fits, IsAnswered, IsMove};
 
-use crate::frames::{Doing, Learnt, Open, Read, Turn, begin_run};
+use crate::frames::{Doing, Open, Read, Turn, begin_run};
 use crate::visited::Visited;
 use sig_base::{Fault, Known, NoMemory, NodeId, Outcome, Step};
 use sig_host::{Lent, Shelf};
-use sig_nodes::{Asked, Graph, Look, Standing};
+use sig_nodes::{Asked, Graph, Standing};
 use signal_model::judged;
 use std::alloc::Global;
 
 /// Looks at a computed that isn't being evaluated: whether it is clean. It is a counted step.
 pub(crate) fn is_clean(graph: &mut Graph, id: NodeId) -> bool
     requires live { is_computed (standing graph.old.state.signals id) ≡ true }
-    requires idle { is_computing graph.old.state id ≡ false }
     ensures clean { result ≡ is_clean (mark_of graph.old.state.signals graph.old.state.memos id) }
     ensures after { Stays graph.old graph.new graph.old.state.progress 1 }
 {
-    match graph.look(id) {
-        Look::Clean => true,
-        _ => false,
-    }
+    graph.is_clean(id)
 }
 
 // Whether a source needs no settling first: it is no computed, is being evaluated, was visited, or is clean. What was settled just now needs
@@ -78,7 +74,7 @@ fn holds_cycle(graph: &Graph, node: NodeId) -> bool
 }
 
 // A source that is ready decides whether the computed runs, or looks at the next.
-fn decide(graph: &mut Graph, spare: &mut Learnt, frame: &mut Open, place: usize) -> Turn
+fn decide(graph: &mut Graph, frame: &mut Open, place: usize) -> Turn
     requires inside { place < length (sources_of graph.old.state.memos frame.old.id) }
     requires small { place < 18446744073709551615 }
     ensures turn { move_of result frame.new ≡ decided (holds_cycle graph.old.state.memos frame.old.id) (first_moved graph.old.state.memos (evaluating graph.old.state) (drop place (sources_of graph.old.state.memos frame.old.id))) place }
@@ -91,7 +87,7 @@ fn decide(graph: &mut Graph, spare: &mut Learnt, frame: &mut Open, place: usize)
         return Turn::GoesOn;
     }
     if graph.moved(frame.id, place) {
-        begin_run(frame, spare);
+        begin_run(frame);
         return Turn::GoesOn;
     }
     frame.doing = Doing::Looking(place + 1);
@@ -99,13 +95,7 @@ fn decide(graph: &mut Graph, spare: &mut Learnt, frame: &mut Open, place: usize)
 }
 
 // A look at the kept sources from a place on.
-fn look(
-    graph: &mut Graph,
-    visited: &Visited,
-    spare: &mut Learnt,
-    frame: &mut Open,
-    place: usize,
-) -> Turn
+fn look(graph: &mut Graph, visited: &Visited, frame: &mut Open, place: usize) -> Turn
     ensures turn { move_of result frame.new ≡ looked graph.old.state.signals graph.old.state.memos (evaluating graph.old.state) (passed_over graph.old.state.signals graph.old.state.memos visited.now) (holds_cycle graph.old.state.memos frame.old.id) place (drop place (sources_of graph.old.state.memos frame.old.id)) }
     ensures id { frame.new.id ≡ frame.old.id }
     ensures given { move_reads (move_of result frame.new) ≡ [] }
@@ -116,9 +106,10 @@ fn look(
     };
     if !is_ready(graph, visited, id) {
         frame.doing = Doing::LookedAt(place);
-        return Turn::Needs(id);
+        frame.needed = id;
+        return Turn::Needs;
     }
-    decide(graph, spare, frame, place)
+    decide(graph, frame, place)
 }
 
 /// What a source that is ready is read as.
@@ -186,7 +177,10 @@ fn tell(frame: &mut Open, slot: u32, id: NodeId, outcome: Outcome) -> Result<Tur
             frame.doing = Doing::Running;
             Ok(Turn::GoesOn)
         }
-        Outcome::Bad(fault) => Ok(Turn::Ends(Outcome::Bad(fault))),
+        Outcome::Bad(fault) => {
+            frame.outcome = Outcome::Bad(fault);
+            Ok(Turn::Ends)
+        }
     }
 }
 
@@ -214,7 +208,8 @@ fn wait(graph: &mut Graph, visited: &Visited, frame: &mut Open, slot: u32) -> Re
     let id = slot_of(graph, frame.id, slot);
     if !is_ready(graph, visited, id) {
         frame.doing = Doing::Waiting(slot);
-        return Ok(Turn::Needs(id));
+        frame.needed = id;
+        return Ok(Turn::Needs);
     }
     let outcome = outcome_of(graph, id)?;
     let turn = tell(frame, slot, id, outcome)?;
@@ -227,8 +222,14 @@ fn answered(frame: &mut Open, answer: Step) -> Turn
     ensures id { frame.new.id ≡ frame.old.id }
 {
     match answer {
-        Step::Done(value) => Turn::Ends(Outcome::Good(value)),
-        Step::Fail(fault) => Turn::Ends(Outcome::Bad(fault)),
+        Step::Done(value) => {
+            frame.outcome = Outcome::Good(value);
+            Turn::Ends
+        }
+        Step::Fail(fault) => {
+            frame.outcome = Outcome::Bad(fault);
+            Turn::Ends
+        }
         Step::Read(slot) => {
             frame.doing = Doing::Waiting(slot);
             Turn::GoesOn
@@ -300,7 +301,6 @@ pub(crate) fn turn_of(
     graph: &mut Graph,
     shelf: &mut Shelf,
     visited: &Visited,
-    spare: &mut Learnt,
     frame: &mut Open,
 ) -> Result<Turn, NoMemory>
     requires fits { Fits graph.old (frame_of frame.old) }
@@ -316,8 +316,8 @@ pub(crate) fn turn_of(
     ensures asked { OnOk result (⟦<Shelf as Lent>⟧.asked shelf.new ≡ places_by (standing graph.old.state.signals frame.old.id) (phase_of frame.old.doing frame.old.learnt) (⟦<Shelf as Lent>⟧.asked shelf.old)) }
 {
     match frame.doing {
-        Doing::Looking(place) => Ok(look(graph, visited, spare, frame, place)),
-        Doing::LookedAt(place) => Ok(look(graph, visited, spare, frame, place)),
+        Doing::Looking(place) => Ok(look(graph, visited, frame, place)),
+        Doing::LookedAt(place) => Ok(look(graph, visited, frame, place)),
         Doing::Running => run(alloc, graph, shelf, frame),
         Doing::Waiting(slot) => wait(graph, visited, frame, slot),
     }

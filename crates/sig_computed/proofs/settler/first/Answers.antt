@@ -23,6 +23,3 @@ returns-clause-stack c =
     ap (λ (f : Frame). f ∷ []) c.begin.ensures.frame
     ∙ ap (λ k. new_frame k n ∷ []) c.is_clean.ensures.after.memos
     ∙ sym (ap (λ b. cond b [] (new_frame s.memos n ∷ [])) (first_ready s.signals s.memos n c.requires.live ∙ sym c.if-is_clean.ensures.clean))
-
-pub is_clean-requires-clause-idle : goal.is_clean-requires-clause-idle
-is_clean-requires-clause-idle c = c.requires.idle c.args.frame.now.id

@@ -4,7 +4,7 @@ use Rattle.sig_nodes.specs.States.{is_computing}
 use Rattle.sig_computed.specs.Skips.{look_steps, passed_over}
 use Rattle.sig_computed.specs.Views.{evaluating, Stays}
 use Rattle.sig_computed.proofs.Leaves.{kind_computed, ready_computed, ready_other, ready_visited}
-use Rattle.sig_computed.proofs.Looks.{kind_idle, over_clean, over_visited, stays_here}
+use Rattle.sig_computed.proofs.Looks.{over_clean, over_visited, stays_here}
 use Rattle.sig_computed.proofs.Progresses.{in_evaluating}
 use Rattle.sig_computed.proofs.turns.is_ready.Goals as goal
 
@@ -55,7 +55,3 @@ returns-in_default c =
       after = stays_here c.args.graph.now
           (look_steps (standing s.signals c.args.id) (is_in c.args.id (evaluating s)) (is_in c.args.id visited));
     }
-
-pub is_clean-requires-clause-idle : goal.is_clean-requires-clause-idle
-is_clean-requires-clause-idle c =
-    let s = c.args.graph.now.state in kind_idle (standing s.signals c.args.id) (is_computing s c.args.id) c.in-Computed.ensures
