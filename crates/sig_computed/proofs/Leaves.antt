@@ -1,5 +1,6 @@
 -- What stands under a name, as a graph answers it and as steps ask it.
 use Rattle.std.proofs.Common.{◌≡◌, ℕ, ◌+◌, Bool, true, false, List, [], length, Option, Some, Result, Ok, Err, OnOk, refl, sym, ap, ◌∙◌, subst}
+use Rattle.std.specs.Prelude.{◌&&◌, cond, not}
 use Rattle.sig_base.specs.declared.value.Outcome.{Outcome}
 use Rattle.sig_base.specs.declared.value.Outcome.TheVariants.{Bad}
 use Rattle.sig_base.specs.declared.value.Fault.TheVariants.{Cycle}
@@ -56,16 +57,12 @@ outcome_computed (IsComputed c) false true m k same = cc
 outcome_computed (IsComputed c) false false m k same = refl
 
 -- a source that has moved
-pub decided_moved : (cycle moved : Bool) (place : ℕ) → cycle ≡ false → moved ≡ true → GoesOn (Running [] []) ≡ decided cycle moved place
-decided_moved true moved place c m = cc
-decided_moved false false place c m = cc
-decided_moved false true place c m = refl
+pub decided_moved : (cycle moved : Bool) (place : ℕ) → (not cycle && moved) ≡ true → GoesOn (Running [] []) ≡ decided cycle moved place
+decided_moved cycle moved place m = sym (ap (λ b. cond b (GoesOn (Running [] [])) (GoesOn (Looking (place + 1)))) m)
 
 -- one that hasn't
-pub decided_still : (cycle moved : Bool) (place : ℕ) → moved ≡ false → GoesOn (Looking (place + 1)) ≡ decided cycle moved place
-decided_still cycle true place m = cc
-decided_still true false place m = refl
-decided_still false false place m = refl
+pub decided_still : (cycle moved : Bool) (place : ℕ) → (not cycle && moved) ≡ false → GoesOn (Looking (place + 1)) ≡ decided cycle moved place
+decided_still cycle moved place m = sym (ap (λ b. cond b (GoesOn (Running [] [])) (GoesOn (Looking (place + 1)))) m)
 
 -- a host formula's answer, judged, is that of the recipe
 pub host_answer : (hosts : Hosts) (st : Stands) (known : List Known) (a : Asked) (place : ℕ) (slots : List ℕ) (step s : Step) → a ≡ HostAsked place → IsAnswerHere st known a →

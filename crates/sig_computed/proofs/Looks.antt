@@ -1,6 +1,6 @@
 -- A look at the sources from a place on, and what it counts.
 use Rattle.std.proofs.Common.{◌≡◌, ℕ, zero, suc, ◌+◌, ◌≤◌, ◌==◌, ◌||◌, inl, inr, true≢false, Bool, true, false, cond, List, [], ◌∷◌, Some, None, map, refl, sym, ap, ◌∙◌, subst, arith}
-use Rattle.std.specs.Prelude.{is_some, slice_get}
+use Rattle.std.specs.Prelude.{◌^◌, is_some, nat_lt, slice_get}
 use Rattle.std.proofs.lemmas.Bool.{eqb-true, eq-eqb}
 use Rattle.std.proofs.lemmas.List.Elements.{All-append, All-cons, All-nil}
 use Rattle.sig_base.specs.declared.value.Outcome.{Outcome}
@@ -109,6 +109,34 @@ first_ready w k n live = go (standing w n) live ∙ sym (over_clean w k [] n liv
 -- where nothing is done, all stays
 pub stays_here : (g : states.Seen) (n : ℕ) → Stays g g g.state.progress n
 stays_here g n = record { signals = refl; memos = refl; progress = refl; worn = refl; seats = refl; given = refl; steps = omega arith }
+
+-- a count goes up by one at most
+counted_most : (n : ℕ) → states.counted n ≤ n + 1
+counted_most n = elim (nat_lt (n + 1) (2 ^ 128)) as (λ b. cond b (n + 1) n ≤ n + 1) [ true ↦ omega arith | false ↦ omega arith ]
+
+-- a source was compared, where its computed doesn't hold `cycle`
+pub stays_compared : (old new : states.Seen) (cycle : Bool) → states.Becomes old new (cond cycle old.state (states.with_look old.state)) →
+    new.seats ≡ old.seats → Stays old new old.state.progress 1
+stays_compared old new true a seats = record {
+  signals = ap (λ (s : states.State). s.signals) a.state;
+  memos = ap (λ (s : states.State). s.memos) a.state;
+  progress = ap (λ (s : states.State). s.progress) a.state;
+  worn = ap (λ (s : states.State). s.worn) a.state;
+  seats = seats;
+  given = a.given;
+  steps = let e : new.state.looked ≡ old.state.looked = ap (λ (s : states.State). s.looked) a.state in omega (arith, e);
+}
+stays_compared old new false a seats = record {
+  signals = ap (λ (s : states.State). s.signals) a.state;
+  memos = ap (λ (s : states.State). s.memos) a.state;
+  progress = ap (λ (s : states.State). s.progress) a.state;
+  worn = ap (λ (s : states.State). s.worn) a.state;
+  seats = seats;
+  given = a.given;
+  steps =
+      let e : new.state.looked ≡ states.counted old.state.looked = ap (λ (s : states.State). s.looked) a.state in
+      let m = counted_most old.state.looked in omega (arith, e, m);
+}
 
 -- and who is being evaluated is the same
 pub evaluating_stays : (g h : states.Seen) (n : ℕ) → Stays g h g.state.progress n → evaluating h.state ≡ evaluating g.state

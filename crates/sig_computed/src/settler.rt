@@ -1,11 +1,12 @@
 // Settling by a loop over a stack of frames, so its depth rests on no machine stack.
 ghost use Rattle.std.specs.Prelude.{◌≡◌, ◌+◌, ◌*◌, ◌<◌, ◌≤◌, ◌^◌, ◌++◌, ◌∷◌, ℕ, [], List, true, false, None, Some, IfOk, IfSome, OnOk, map, reverse, length, vec_len};
+ghost use Rattle.std.specs.List.{All};
 ghost use Rattle.signal_model.specs.Recipes.{Hosts};
 ghost use Rattle.signal_model.specs.Signals.{is_computed, is_in, standing};
-ghost use Rattle.signal_model.specs.Values.{value_of};
+ghost use Rattle.signal_model.specs.Values.{value_of, Seen};
 ghost use Rattle.signal_model.specs.Kept.{AreKept};
 ghost use Rattle.signal_model.specs.Sound.{names_of, standing_outcome};
-ghost use Rattle.sig_nodes.specs.States.{is_computing, progress_at, CanWear};
+ghost use Rattle.sig_nodes.specs.States.{is_computing, is_given, progress_at, CanWear};
 ghost use Rattle.sig_computed.specs.Steps.{frame_names, new_frame};
 ghost use Rattle.sig_host.specs.Hosts.{most_asked};
 ghost use Rattle.sig_computed.specs.Asked.{AreThere};
@@ -32,8 +33,7 @@ fn begin(graph: &mut Graph, frame: &mut Open)
     ensures after { Stays graph.old graph.new (progressed frame.old.id (Some []) graph.old.state.progress) 1 }
     ensures begun { progress_at frame.old.id graph.new.state.progress ≡ Some [] }
 {
-    graph.begin(frame.id);
-    if graph.stale(frame.id) {
+    if graph.begin_stale(frame.id) {
         begin_run(frame);
         return;
     }
@@ -51,41 +51,20 @@ fn names(alloc: Global, reads: &[Read]) -> Result<Vec<NodeId>, NoMemory>
     Ok(all)
 }
 
-// Keeps a run in the graph.
+// Keeps a run in the graph, by the names of what it read.
 fn keep_in(
-    alloc: Global,
     graph: &mut Graph,
     node: NodeId,
-    reads: &[Read],
+    names: &[NodeId],
     outcome: &Outcome,
 ) -> Result<(), NoMemory>
     requires computing { is_computing graph.old.state node ≡ true }
-    requires given { AreReadsGiven graph.old (map seen_of reads.now) }
+    requires given { All (λ n. is_given graph.old n ≡ true) names.now }
     requires worn { CanWear graph.old.state }
-    ensures { OnOk result (IsKept graph.old graph.new node (evaluation_of reads.now outcome.now)) }
+    ensures { OnOk result ((reads : List Seen) → names.now ≡ names_of reads → IsKept graph.old graph.new node (record { reads = reads; outcome = outcome.now })) }
 {
-    let sources = names(alloc, reads)?;
     let outcome = outcome.copy()?;
-    graph.keep_run(node, outcome, sources)?;
-    Ok(())
-}
-
-// Notes a run.
-fn tell_run(
-    alloc: Global,
-    notes: &mut Vec<RunNote>,
-    node: NodeId,
-    reads: &[Read],
-    outcome: Outcome,
-) -> Result<(), NoMemory>
-    ensures { OnOk result (map note_of notes.new.items ≡ map note_of notes.old.items ++ evaluation_note node (evaluation_of reads.now outcome) ∷ []) }
-{
-    let reads = names(alloc, reads)?;
-    notes.push(RunNote {
-        id: node,
-        reads,
-        outcome,
-    })?;
+    graph.keep_reads(node, outcome, names)?;
     Ok(())
 }
 
@@ -104,8 +83,13 @@ fn keep(
     ensures after { OnOk result (IsKept graph.old graph.new node (evaluation_of reads.now outcome)) }
     ensures notes { OnOk result (map note_of notes.new.items ≡ map note_of notes.old.items ++ evaluation_note node (evaluation_of reads.now outcome) ∷ []) }
 {
-    keep_in(alloc, graph, node, reads, &outcome)?;
-    tell_run(alloc, notes, node, reads, outcome)?;
+    let reads = names(alloc, reads)?;
+    keep_in(graph, node, &reads, &outcome)?;
+    notes.push(RunNote {
+        id: node,
+        reads,
+        outcome,
+    })?;
     Ok(())
 }
 

@@ -63,16 +63,6 @@ fn source_at(graph: &Graph, node: NodeId, place: usize) -> Option<NodeId>
     None
 }
 
-// Whether a computed holds `cycle`.
-fn holds_cycle(graph: &Graph, node: NodeId) -> bool
-    ensures { result ≡ holds_cycle graph.now.state.memos node }
-{
-    match graph.kept(node) {
-        Some(Outcome::Bad(Fault::Cycle)) => true,
-        _ => false,
-    }
-}
-
 // A source that is ready decides whether the computed runs, or looks at the next.
 fn decide(graph: &mut Graph, frame: &mut Open, place: usize) -> Turn
     requires inside { place < length (sources_of graph.old.state.memos frame.old.id) }
@@ -82,11 +72,7 @@ fn decide(graph: &mut Graph, frame: &mut Open, place: usize) -> Turn
     ensures given { move_reads (move_of result frame.new) ≡ [] }
     ensures after { Stays graph.old graph.new graph.old.state.progress (compare_steps (move_of result frame.new)) }
 {
-    if holds_cycle(graph, frame.id) {
-        frame.doing = Doing::Looking(place + 1);
-        return Turn::GoesOn;
-    }
-    if graph.moved(frame.id, place) {
+    if graph.compare(frame.id, place) {
         begin_run(frame);
         return Turn::GoesOn;
     }
