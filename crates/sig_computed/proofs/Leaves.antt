@@ -1,5 +1,5 @@
 -- What stands under a name, as a graph answers it and as steps ask it.
-use Rattle.std.proofs.Common.{◌≡◌, ℕ, ◌+◌, Bool, true, false, List, [], length, Option, Some, Result, Ok, Err, OnOk, refl, sym, ap, ◌∙◌, subst}
+use Rattle.std.proofs.Common.{◌≡◌, ℕ, ◌+◌, Bool, true, false, List, [], length, Option, Some, None, Result, Ok, Err, OnOk, refl, sym, ap, ◌∙◌, subst}
 use Rattle.std.specs.Prelude.{◌&&◌, cond, not}
 use Rattle.sig_base.specs.declared.value.Outcome.{Outcome}
 use Rattle.sig_base.specs.declared.value.Outcome.TheVariants.{Bad}
@@ -12,8 +12,8 @@ use Rattle.sig_nodes.specs.declared.answers.Asked.TheVariants.{Host as HostAsked
 use Rattle.signal_model.specs.Signals.{Stands, IsGone, IsCell, IsComputed, is_computed}
 use Rattle.signal_model.specs.Memos.{Memo}
 use Rattle.signal_model.specs.Sound.{kept_outcome, outcome_here}
-use Rattle.sig_nodes.specs.declared.answers.Standing.TheVariants.{Computed, Computing}
-use Rattle.sig_nodes.specs.Answers.{answer_here, host_place, kind_here, slots_here, IsAnswerHere}
+use Rattle.sig_nodes.specs.declared.answers.Standing.TheVariants.{Computed}
+use Rattle.sig_nodes.specs.Answers.{answer_here, host_place, kind_here, shown_computed, shown_here, slots_here, IsAnswerHere}
 use Rattle.sig_computed.specs.Steps.{Running, Looking, GoesOn, is_ready, ready_outcome, decided}
 use Rattle.sig_computed.specs.Views.{or_cycle}
 
@@ -39,22 +39,17 @@ ready_other (IsComputed c) false e v k same = absurd (k refl)
 ready_other (IsComputed c) true true v k same = refl
 ready_other (IsComputed c) true false v k same = cc
 
--- a computed that is being evaluated is read as `cycle`
-pub outcome_computing : (st : Stands) (b e : Bool) (o : Option Outcome) → Computing ≡ kind_here st b → e ≡ b → Bad Cycle ≡ or_cycle (ready_outcome st e o)
-outcome_computing IsGone b e o k same = cc
-outcome_computing (IsCell c) b e o k same = cc
-outcome_computing (IsComputed c) false e o k same = cc
-outcome_computing (IsComputed c) true false o k same = cc
-outcome_computing (IsComputed c) true true o k same = refl
-
--- any other computed is read as what it keeps
-pub outcome_computed : (st : Stands) (b e : Bool) (m : Option Memo) → Computed ≡ kind_here st b → e ≡ b →
-    kept_outcome m ≡ ready_outcome st e (outcome_here st m)
-outcome_computed IsGone b e m k same = cc
-outcome_computed (IsCell c) b e m k same = cc
-outcome_computed (IsComputed c) true e m k same = cc
-outcome_computed (IsComputed c) false true m k same = cc
-outcome_computed (IsComputed c) false false m k same = refl
+-- what the graph shows is what a source that is ready is read as
+pub shown_read : (st : Stands) (b e : Bool) (m : Option Memo) → e ≡ b → shown_here st b (kept_outcome m) ≡ or_cycle (ready_outcome st e (outcome_here st m))
+shown_read IsGone b e m same = refl
+shown_read (IsCell c) b e m same = refl
+shown_read (IsComputed c) b e m same = computed b (kept_outcome m) ∙ ap (λ x. or_cycle (cond x (Some (Bad Cycle)) (kept_outcome m))) (sym same)
+  where
+    computed : (b : Bool) (o : Option Outcome) → shown_computed b o ≡ or_cycle (cond b (Some (Bad Cycle)) o)
+    computed true None = refl
+    computed true (Some o) = refl
+    computed false None = refl
+    computed false (Some o) = refl
 
 -- a source that has moved
 pub decided_moved : (cycle moved : Bool) (place : ℕ) → (not cycle && moved) ≡ true → GoesOn (Running [] []) ≡ decided cycle moved place

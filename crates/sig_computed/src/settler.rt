@@ -17,7 +17,7 @@ ghost use Rattle.sig_computed.specs.Turns.{evaluation_note, first_stack, notes_o
 
 use crate::frames::{Doing, Open, Outer, Read, Turn, begin_run, go_in, go_out};
 use crate::notes::RunNote;
-use crate::turns::{is_clean, outcome_as, outcome_of, turn_of};
+use crate::turns::{is_clean, outcome_of, turn_of};
 use crate::visited::Visited;
 use sig_base::{Fault, NoMemory, NodeId, Outcome};
 use sig_host::{Lent, Shelf};
@@ -226,6 +226,6 @@ pub fn settle(
             let outcome = outcome_of(graph, id)?;
             Ok(outcome)
         }
-        _ => outcome_as(graph, id, kind),
+        _ => outcome_of(graph, id),
     }
 }

@@ -1,13 +1,13 @@
 // One step of a frame: a look at a kept source, an answer of the recipe, or a slot that was waited for.
 ghost use Rattle.std.specs.Prelude.{◌≡◌, ◌<◌, ℕ, ◌++◌, ◌∷◌, [], true, false, List, Some, None, IfOk, IfSome, OnOk, map, drop, length, slice_index};
 ghost use Rattle.signal_model.specs.Recipes.{Hosts, IsJudged};
-ghost use Rattle.signal_model.specs.Signals.{is_computed, is_in, standing, is_cell};
-ghost use Rattle.signal_model.specs.Memos.{holds_cycle, memo_of, sources_of};
+ghost use Rattle.signal_model.specs.Signals.{is_computed, is_in, standing};
+ghost use Rattle.signal_model.specs.Memos.{holds_cycle, sources_of};
 ghost use Rattle.signal_model.specs.Marks.{mark_of};
 ghost use Rattle.sig_computed.specs.Skips.{compare_steps, is_clean, look_steps, passed_over, source_steps};
-ghost use Rattle.signal_model.specs.Sound.{kept_outcome, standing_outcome};
-ghost use Rattle.sig_nodes.specs.Answers.{answer_here, host_here, kind_here, slots_here, IsAnswerHere, IsJudgedAnswer};
-ghost use Rattle.sig_nodes.specs.States.{is_computing, is_given, progress_at, GoesOn};
+ghost use Rattle.signal_model.specs.Sound.{standing_outcome};
+ghost use Rattle.sig_nodes.specs.Answers.{answer_here, host_here, slots_here, IsAnswerHere, IsJudgedAnswer};
+ghost use Rattle.sig_nodes.specs.States.{is_given, progress_at, GoesOn};
 ghost use Rattle.sig_computed.specs.Steps.{answered, decided, is_ready, looked, ready_outcome, slot_read};
 ghost use Rattle.sig_computed.specs.Views.{evaluating, first_moved, first_name, frame_of, move_of, or_cycle, phase_of, progressed, seen_of, Stays};
 ghost use Rattle.sig_computed.specs.Asked.{asked_once, places_by, CanAsk};
@@ -15,7 +15,7 @@ ghost use Rattle.sig_computed.specs.Turns.{move_by, move_reads, progress_by, tur
 
 use crate::frames::{Doing, Open, Read, Turn, begin_run};
 use crate::visited::Visited;
-use sig_base::{Fault, Known, NoMemory, NodeId, Outcome, Step};
+use sig_base::{Known, NoMemory, NodeId, Outcome, Step};
 use sig_host::{Lent, Shelf};
 use sig_nodes::{Asked, Graph, Standing};
 use signal_model::judged;
@@ -102,44 +102,7 @@ fn look(graph: &mut Graph, visited: &Visited, frame: &mut Open, place: usize) ->
 pub(crate) fn outcome_of(graph: &Graph, id: NodeId) -> Result<Outcome, NoMemory>
     ensures { IfOk result (λ o. o ≡ or_cycle (ready_outcome (standing graph.now.state.signals id) (is_in id (evaluating graph.now.state)) (standing_outcome graph.now.state.signals graph.now.state.memos id))) }
 {
-    outcome_as(graph, id, graph.standing(id))
-}
-
-/// The same, by what stands there.
-pub(crate) fn outcome_as(graph: &Graph, id: NodeId, kind: Standing) -> Result<Outcome, NoMemory>
-    requires { kind ≡ kind_here (standing graph.now.state.signals id) (is_computing graph.now.state id) }
-    ensures { IfOk result (λ o. o ≡ or_cycle (ready_outcome (standing graph.now.state.signals id) (is_in id (evaluating graph.now.state)) (standing_outcome graph.now.state.signals graph.now.state.memos id))) }
-{
-    match kind {
-        Standing::Gone => Ok(Outcome::Bad(Fault::Gone)),
-        Standing::Cell => cell_outcome(graph, id),
-        Standing::Computing => Ok(Outcome::Bad(Fault::Cycle)),
-        Standing::Computed => kept_outcome(graph, id),
-    }
-}
-
-// A cell's value, as what it is read as.
-fn cell_outcome(graph: &Graph, id: NodeId) -> Result<Outcome, NoMemory>
-    requires { is_cell (standing graph.now.state.signals id) ≡ true }
-    ensures { IfOk result (λ o. Some o ≡ standing_outcome graph.now.state.signals graph.now.state.memos id) }
-{
-    match graph.cell_value(id) {
-        Some(value) => {
-            let same = value.copy()?;
-            Ok(Outcome::Good(same))
-        }
-        None => unreachable!(),
-    }
-}
-
-// What a computed keeps. One that was visited has run, so it keeps something.
-fn kept_outcome(graph: &Graph, id: NodeId) -> Result<Outcome, NoMemory>
-    ensures { IfOk result (λ o. o ≡ or_cycle (kept_outcome (memo_of graph.now.state.memos id))) }
-{
-    match graph.kept(id) {
-        Some(outcome) => outcome.copy(),
-        None => Ok(Outcome::Bad(Fault::Cycle)),
-    }
+    graph.shown(id)
 }
 
 // A source is read as an outcome: it stands behind what was read before.

@@ -29,11 +29,11 @@ returns-in_default g c =
     (λ e. c.in_default.not-Computed (c.standing-kind.ensures ∙ e)) (sym idle) in
     let places : List HostPlace = map (λ p. record { there = is_some p.host; asks = p.count }) c.args.shelf.now.places.items in
     let looked = c.args.graph.now.state.looked in
-    let r = c.outcome_as.result in
+    let r = c.outcome_of-in_default.result in
     record {
       value = λ hosts all kept. subst (λ x. IfOk r (λ o. o ≡ x)) (shown_value (standing w c.args.id) (is_in c.args.id (evaluating c.args.graph.now.state)) (standing_outcome w k c.args.id)
           (value_of hosts w c.args.id []) (in_evaluating c.args.graph.now.state c.args.id ∙ idle)
-          (plain_ended hosts w k looked places c.args.id notes kept ready).value) c.outcome_as.ensures;
+          (plain_ended hosts w k looked places c.args.id notes kept ready).value) c.outcome_of-in_default.ensures;
       settles = anyway r (record {
         settled = λ hosts all kept. (plain_ended hosts w k looked places c.args.id notes kept ready).settling;
         kept = λ hosts all kept. kept;
