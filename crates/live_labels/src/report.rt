@@ -28,10 +28,14 @@ use sig_computed::RunNote;
 use sig_effect::Event;
 use std::alloc::Global;
 
-/// Puts entries behind others.
+/// Puts entries behind others. Behind none they stay where they are.
 pub fn append(told: &mut Vec<Entry>, more: Vec<Entry>) -> Result<(), NoMemory>
     ensures { OnOk result (told.new.items ≡ told.old.items ++ more.items) }
 {
+    if told.is_empty() {
+        *told = more;
+        return Ok(());
+    }
     for entry in more {
         told.push(entry)?;
     }
@@ -277,14 +281,14 @@ fn tell_one(told: &mut Vec<Entry>, labels: &mut Labels, event: &Event) -> Result
     }
 }
 
-// Room for what is told of events, and for one entry behind it; none where there is no event.
+// Room for what is told of events, and for one entry behind it; none where there is no event, or one of which nothing is told.
 fn room_for(events: &[Event]) -> usize
     ensures { result ≤ length events.now + 1 }
 {
-    if events.is_empty() {
-        return 0;
+    match events {
+        [] | [Event::Change(..)] => 0,
+        _ => events.len() + 1,
     }
-    events.len() + 1
 }
 
 // Tells of events, one by one, each by the labels of its moment.
