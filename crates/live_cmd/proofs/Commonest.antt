@@ -10,10 +10,11 @@ use Rattle.sig_words.specs.Lexemes.{word}
 use Rattle.line_forms.specs.Printed.{line_text}
 use Rattle.line_forms.specs.Reader.{name_of}
 use Rattle.line_forms.proofs.Shared.{name_is, name_word, text_writes}
+use Rattle.live_cmd.specs.declared.command.Bare.TheVariants as bares
 use Rattle.live_cmd.specs.declared.command.Command.TheVariants as command
 use Rattle.live_cmd.specs.declared.command.Item.TheVariants as item
 use Rattle.live_cmd.specs.declared.command.Verb.TheVariants as verbs
-use Rattle.live_cmd.specs.Grammar.{commands, verb, set, Said, Writes}
+use Rattle.live_cmd.specs.Grammar.{bare, commands, verb, set, Said, Writes}
 use Rattle.live_cmd.specs.Views.{IsPlain}
 
 -- `get` and a name
@@ -36,3 +37,7 @@ plain_set k t p q n z parts e fits number =
     ∙ ap (λ (bs : List ℕ). codes "set " ++ (p ++ 32 ∷ bs)) (append-nil (d ++ []) ∙ append-nil d ∙ sym number)
     ∙ ap (λ (bs : List ℕ). codes "set " ++ bs) (sym parts) in
     inl (x, subst (Writes x) text (text_writes commands x refl ((is.0, name_word p is.0), ((refl, fits), tt))), refl, rw is.1 refl)
+
+-- `flush`
+pub plain_flush : (k : ℕ) → IsPlain (k, codes "flush") (item.Do (command.Bare bares.Flush))
+plain_flush k = inl ((bare bares.Flush, tt), text_writes commands (bare bares.Flush, tt) refl tt, refl, refl)

@@ -5,7 +5,7 @@ ghost use Rattle.std.specs.Int.{w64};
 ghost use Rattle.std.specs.Int.RustNames.{FitsSigned};
 ghost use Rattle.live_cmd.specs.Views.{IsPlain};
 
-use crate::{Command, Item, Verb};
+use crate::{Bare, Command, Item, Verb};
 use line_forms::{Unread, as_name};
 use sig_base::Scalar;
 use sig_words::integer;
@@ -58,6 +58,24 @@ fn set(alloc: Global, text: &[u8]) -> Result<Item, Unread>
     Ok(Item::Do(Command::Set { name, value }))
 }
 
+// `flush`.
+fn flush() -> Result<Item, Unread>
+    ensures { (k : ℕ) → IfOk result (λ i. IsPlain (k, codes "flush") i) }
+{
+    let bare = Bare::Flush;
+    Ok(Item::Do(Command::Bare(bare)))
+}
+
+// What the commonest word alone is.
+fn word_alone(line: &[u8]) -> Result<Item, Unread>
+    ensures { (k : ℕ) → IfOk result (λ i. IsPlain (k, line.now) i) }
+{
+    if line == b"flush".as_slice() {
+        return flush();
+    }
+    Err(Unread::NotThere)
+}
+
 /// What one of the commonest lines is; nothing of another, even where it says something.
 pub fn common_item(alloc: Global, line: &[u8]) -> Result<Item, Unread>
     ensures { (k : ℕ) → IfOk result (λ i. IsPlain (k, line.now) i) }
@@ -72,5 +90,5 @@ pub fn common_item(alloc: Global, line: &[u8]) -> Result<Item, Unread>
     if front == b"set ".as_slice() {
         return set(alloc, text);
     }
-    Err(Unread::NotThere)
+    word_alone(line)
 }
