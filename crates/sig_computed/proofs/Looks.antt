@@ -1,5 +1,5 @@
 -- A look at the sources from a place on, and what it counts.
-use Rattle.std.proofs.Common.{◌≡◌, ℕ, zero, suc, ◌+◌, ◌≤◌, ◌==◌, ◌||◌, inl, inr, true≢false, Bool, true, false, cond, List, [], ◌∷◌, Some, None, map, refl, sym, ap, ◌∙◌, subst, arith}
+use Rattle.std.proofs.Common.{◌≡◌, ℕ, zero, suc, ◌+◌, ◌≤◌, ◌==◌, ◌||◌, inl, inr, true≢false, Bool, true, false, cond, List, [], ◌∷◌, ◌++◌, Some, None, map, refl, sym, ap, ◌∙◌, subst, arith}
 use Rattle.std.specs.Prelude.{◌^◌, is_some, nat_lt, slice_get}
 use Rattle.std.proofs.lemmas.Bool.{eqb-true, eq-eqb}
 use Rattle.std.proofs.lemmas.List.Elements.{All-append, All-cons, All-nil}
@@ -178,3 +178,14 @@ one_more n m rest = elim (tested (n == m)) [
     other : (b : Bool) → (m == n) ≡ b → (n == m) ≡ false → b ≡ false
     other false is e = refl
     other true is e = absurd (true≢false (sym (eq-eqb n m (sym (eqb-true m n is))) ∙ e))
+
+-- one more behind some counts as one more before all
+pub late_more : (ls ks : List ℕ) (n m : ℕ) → is_in m ((ls ++ n ∷ []) ++ ks) ≡ (m == n || is_in m (ls ++ ks))
+late_more [] ks n m = refl
+late_more (l ∷ ls) ks n m = ap (λ b. m == l || b) (late_more ls ks n m) ∙ swapped (m == l) (m == n) (is_in m (ls ++ ks))
+  where
+    swapped : (a b c : Bool) → (a || (b || c)) ≡ (b || (a || c))
+    swapped true true c = refl
+    swapped true false c = refl
+    swapped false true c = refl
+    swapped false false c = refl

@@ -1,5 +1,5 @@
 -- One turn of the loop.
-use Rattle.std.proofs.Common.{◌≡◌, ℕ, ◌+◌, ◌^◌, ◌<◌, ◌≤◌, cond, List, ◌∷◌, ◌++◌, map, reverse, length, refl, sym, ap, ◌∙◌, subst, arith}
+use Rattle.std.proofs.Common.{◌≡◌, ℕ, ◌+◌, ◌^◌, ◌<◌, ◌≤◌, ◌==◌, ◌||◌, cond, List, ◌∷◌, ◌++◌, map, reverse, length, refl, sym, ap, ◌∙◌, subst, arith}
 use Rattle.std.proofs.lemmas.List.{length-append, length-map, length-reverse}
 use Rattle.signal_model.specs.Recipes.{Hosts}
 use Rattle.signal_model.specs.Kept.{AreGiven, AreKept}
@@ -49,6 +49,13 @@ pub record IsMade (h i : states.Seen) (f : Frame) (rest next : List Frame) (visi
   pub stack : next ≡ stack_after h.state.memos f.name mv rest
   pub visits : (m : ℕ) → is_in m visited' ≡ is_in m (visited_after f.name mv visited)
   pub graph : IsMoved h i f.name mv
+
+-- who was visited after a move, where the same were before it
+pub visits_same : (n m : ℕ) (mv : Move) (a b : List ℕ) → is_in m a ≡ is_in m b → is_in m (visited_after n mv a) ≡ is_in m (visited_after n mv b)
+visits_same n m (GoesOn p) a b e = e
+visits_same n m (Needs s p) a b e = e
+visits_same n m Stops a b e = ap (λ x. m == n || x) e
+visits_same n m (Ends v) a b e = ap (λ x. m == n || x) e
 
 -- the same of a frame whose name is told otherwise
 pub made_by : (h i : states.Seen) (f : Frame) (rest next : List Frame) (visited visited' : List ℕ) (mv : Move) (n : ℕ) → n ≡ f.name →

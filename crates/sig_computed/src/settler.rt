@@ -178,7 +178,7 @@ fn bring_up(
     let mut frame = Open::new(alloc, id);
     let mut going = first(graph, &mut frame);
     while going {
-        let turn = turn_of(alloc, graph, shelf, &visited, &mut frame)?;
+        let turn = turn_of(alloc, graph, shelf, &mut visited, &mut frame)?;
         going = apply(
             alloc,
             graph,

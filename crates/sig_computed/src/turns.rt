@@ -32,21 +32,23 @@ pub(crate) fn is_clean(graph: &mut Graph, id: NodeId) -> bool
 
 // Whether a source needs no settling first: it is no computed, is being evaluated, was visited, or is clean. What was settled just now needs
 // no look at all.
-fn is_ready(graph: &mut Graph, visited: &Visited, id: NodeId) -> bool
-    ensures ready { result ≡ is_ready (standing graph.old.state.signals id) (is_in id (evaluating graph.old.state)) (is_in id (passed_over graph.old.state.signals graph.old.state.memos visited.now)) }
-    ensures after { Stays graph.old graph.new graph.old.state.progress (look_steps (standing graph.old.state.signals id) (is_in id (evaluating graph.old.state)) (is_in id visited.now)) }
+fn is_ready(graph: &mut Graph, visited: &mut Visited, id: NodeId) -> Result<bool, NoMemory>
+    ensures ready { IfOk result (λ b. b ≡ is_ready (standing graph.old.state.signals id) (is_in id (evaluating graph.old.state)) (is_in id (passed_over graph.old.state.signals graph.old.state.memos visited.old))) }
+    ensures after { OnOk result (Stays graph.old graph.new graph.old.state.progress (look_steps (standing graph.old.state.signals id) (is_in id (evaluating graph.old.state)) (is_in id visited.old))) }
+    ensures visited { OnOk result ((m : ℕ) → is_in m visited.new ≡ is_in m visited.old) }
 {
     if visited.is_last(id) {
-        return true;
+        return Ok(true);
     }
     match graph.standing(id) {
         Standing::Computed => {
-            if visited.has(id) {
-                return true;
+            let has = visited.has(id)?;
+            if has {
+                return Ok(true);
             }
-            is_clean(graph, id)
+            Ok(is_clean(graph, id))
         }
-        _ => true,
+        _ => Ok(true),
     }
 }
 
@@ -81,21 +83,28 @@ fn decide(graph: &mut Graph, frame: &mut Open, place: usize) -> Turn
 }
 
 // A look at the kept sources from a place on.
-fn look(graph: &mut Graph, visited: &Visited, frame: &mut Open, place: usize) -> Turn
-    ensures turn { move_of result frame.new ≡ looked graph.old.state.signals graph.old.state.memos (evaluating graph.old.state) (passed_over graph.old.state.signals graph.old.state.memos visited.now) (holds_cycle graph.old.state.memos frame.old.id) place (drop place (sources_of graph.old.state.memos frame.old.id)) }
-    ensures id { frame.new.id ≡ frame.old.id }
-    ensures given { move_reads (move_of result frame.new) ≡ [] }
-    ensures after { Stays graph.old graph.new graph.old.state.progress (source_steps graph.old.state.signals (evaluating graph.old.state) visited.now (drop place (sources_of graph.old.state.memos frame.old.id)) (move_of result frame.new)) }
+fn look(
+    graph: &mut Graph,
+    visited: &mut Visited,
+    frame: &mut Open,
+    place: usize,
+) -> Result<Turn, NoMemory>
+    ensures turn { IfOk result (λ t. move_of t frame.new ≡ looked graph.old.state.signals graph.old.state.memos (evaluating graph.old.state) (passed_over graph.old.state.signals graph.old.state.memos visited.old) (holds_cycle graph.old.state.memos frame.old.id) place (drop place (sources_of graph.old.state.memos frame.old.id))) }
+    ensures id { OnOk result (frame.new.id ≡ frame.old.id) }
+    ensures given { IfOk result (λ t. move_reads (move_of t frame.new) ≡ []) }
+    ensures after { IfOk result (λ t. Stays graph.old graph.new graph.old.state.progress (source_steps graph.old.state.signals (evaluating graph.old.state) visited.old (drop place (sources_of graph.old.state.memos frame.old.id)) (move_of t frame.new))) }
+    ensures visited { OnOk result ((m : ℕ) → is_in m visited.new ≡ is_in m visited.old) }
 {
     let Some(id) = source_at(graph, frame.id, place) else {
-        return Turn::Stops;
+        return Ok(Turn::Stops);
     };
-    if !is_ready(graph, visited, id) {
+    let ready = is_ready(graph, visited, id)?;
+    if !ready {
         frame.doing = Doing::LookedAt(place);
         frame.needed = id;
-        return Turn::Needs;
+        return Ok(Turn::Needs);
     }
-    decide(graph, frame, place)
+    Ok(decide(graph, frame, place))
 }
 
 /// What a source that is ready is read as.
@@ -146,16 +155,23 @@ fn slot_of(graph: &Graph, node: NodeId, slot: u32) -> NodeId
 }
 
 // A slot is waited for.
-fn wait(graph: &mut Graph, visited: &Visited, frame: &mut Open, slot: u32) -> Result<Turn, NoMemory>
+fn wait(
+    graph: &mut Graph,
+    visited: &mut Visited,
+    frame: &mut Open,
+    slot: u32,
+) -> Result<Turn, NoMemory>
     requires slot { slot < length (slots_here (standing graph.old.state.signals frame.old.id)) }
     requires given { AreReadsGiven graph.old (map seen_of frame.old.learnt.reads.items) }
-    ensures turn { IfOk result (λ t. move_of t frame.new ≡ waits graph.old.state.signals graph.old.state.memos (evaluating graph.old.state) (passed_over graph.old.state.signals graph.old.state.memos visited.now) slot (slice_index (slots_here (standing graph.old.state.signals frame.old.id)) slot) frame.old.learnt.known.items (map seen_of frame.old.learnt.reads.items)) }
+    ensures turn { IfOk result (λ t. move_of t frame.new ≡ waits graph.old.state.signals graph.old.state.memos (evaluating graph.old.state) (passed_over graph.old.state.signals graph.old.state.memos visited.old) slot (slice_index (slots_here (standing graph.old.state.signals frame.old.id)) slot) frame.old.learnt.known.items (map seen_of frame.old.learnt.reads.items)) }
     ensures id { OnOk result (frame.new.id ≡ frame.old.id) }
     ensures given { IfOk result (λ t. AreReadsGiven graph.old (move_reads (move_of t frame.new))) }
-    ensures after { OnOk result (Stays graph.old graph.new graph.old.state.progress (look_steps (standing graph.old.state.signals (slice_index (slots_here (standing graph.old.state.signals frame.old.id)) slot)) (is_in (slice_index (slots_here (standing graph.old.state.signals frame.old.id)) slot) (evaluating graph.old.state)) (is_in (slice_index (slots_here (standing graph.old.state.signals frame.old.id)) slot) visited.now))) }
+    ensures after { OnOk result (Stays graph.old graph.new graph.old.state.progress (look_steps (standing graph.old.state.signals (slice_index (slots_here (standing graph.old.state.signals frame.old.id)) slot)) (is_in (slice_index (slots_here (standing graph.old.state.signals frame.old.id)) slot) (evaluating graph.old.state)) (is_in (slice_index (slots_here (standing graph.old.state.signals frame.old.id)) slot) visited.old))) }
+    ensures visited { OnOk result ((m : ℕ) → is_in m visited.new ≡ is_in m visited.old) }
 {
     let id = slot_of(graph, frame.id, slot);
-    if !is_ready(graph, visited, id) {
+    let ready = is_ready(graph, visited, id)?;
+    if !ready {
         frame.doing = Doing::Waiting(slot);
         frame.needed = id;
         return Ok(Turn::Needs);
@@ -249,24 +265,25 @@ pub(crate) fn turn_of(
     alloc: Global,
     graph: &mut Graph,
     shelf: &mut Shelf,
-    visited: &Visited,
+    visited: &mut Visited,
     frame: &mut Open,
 ) -> Result<Turn, NoMemory>
     requires fits { Fits graph.old (frame_of frame.old) }
     requires counted { ⟦<Shelf as Lent>⟧.counted shelf.old }
     requires host { CanAsk (host_here (standing graph.old.state.signals frame.old.id)) (⟦<Shelf as Lent>⟧.asked shelf.old) }
-    ensures turn { (hosts : Hosts) → ⟦<Shelf as Lent>⟧.answers hosts shelf.old → IfOk result (λ t. move_of t frame.new ≡ move_by hosts graph.old.state.signals graph.old.state.memos (evaluating graph.old.state) (passed_over graph.old.state.signals graph.old.state.memos visited.now) frame.old.id (phase_of frame.old.doing frame.old.learnt)) }
+    ensures turn { (hosts : Hosts) → ⟦<Shelf as Lent>⟧.answers hosts shelf.old → IfOk result (λ t. move_of t frame.new ≡ move_by hosts graph.old.state.signals graph.old.state.memos (evaluating graph.old.state) (passed_over graph.old.state.signals graph.old.state.memos visited.old) frame.old.id (phase_of frame.old.doing frame.old.learnt)) }
     ensures id { OnOk result (frame.new.id ≡ frame.old.id) }
-    ensures some { IfOk result (λ t. IsMove graph.old.state.signals graph.old.state.memos (evaluating graph.old.state) (passed_over graph.old.state.signals graph.old.state.memos visited.now) frame.old.id (phase_of frame.old.doing frame.old.learnt) (move_of t frame.new)) }
+    ensures some { IfOk result (λ t. IsMove graph.old.state.signals graph.old.state.memos (evaluating graph.old.state) (passed_over graph.old.state.signals graph.old.state.memos visited.old) frame.old.id (phase_of frame.old.doing frame.old.learnt) (move_of t frame.new)) }
     ensures given { IfOk result (λ t. AreReadsGiven graph.old (move_reads (move_of t frame.new))) }
-    ensures after { IfOk result (λ t. Stays graph.old graph.new (progress_by frame.old.id (phase_of frame.old.doing frame.old.learnt) graph.old.state.progress) (turn_steps graph.old.state.signals graph.old.state.memos (evaluating graph.old.state) visited.now frame.old.id (phase_of frame.old.doing frame.old.learnt) (move_of t frame.new))) }
+    ensures after { IfOk result (λ t. Stays graph.old graph.new (progress_by frame.old.id (phase_of frame.old.doing frame.old.learnt) graph.old.state.progress) (turn_steps graph.old.state.signals graph.old.state.memos (evaluating graph.old.state) visited.old frame.old.id (phase_of frame.old.doing frame.old.learnt) (move_of t frame.new))) }
     ensures answers { (hosts : Hosts) → ⟦<Shelf as Lent>⟧.answers hosts shelf.old → OnOk result (⟦<Shelf as Lent>⟧.answers hosts shelf.new) }
     ensures counted { OnOk result (⟦<Shelf as Lent>⟧.counted shelf.new) }
     ensures asked { OnOk result (⟦<Shelf as Lent>⟧.asked shelf.new ≡ places_by (standing graph.old.state.signals frame.old.id) (phase_of frame.old.doing frame.old.learnt) (⟦<Shelf as Lent>⟧.asked shelf.old)) }
+    ensures visited { OnOk result ((m : ℕ) → is_in m visited.new ≡ is_in m visited.old) }
 {
     match frame.doing {
-        Doing::Looking(place) => Ok(look(graph, visited, frame, place)),
-        Doing::LookedAt(place) => Ok(look(graph, visited, frame, place)),
+        Doing::Looking(place) => look(graph, visited, frame, place),
+        Doing::LookedAt(place) => look(graph, visited, frame, place),
         Doing::Running => run(alloc, graph, shelf, frame),
         Doing::Waiting(slot) => wait(graph, visited, frame, slot),
     }

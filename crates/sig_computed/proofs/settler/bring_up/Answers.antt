@@ -15,7 +15,7 @@ use Rattle.sig_computed.proofs.Stacks.{HasStack, frames_are, notes_stay}
 use Rattle.sig_computed.proofs.Progresses.{in_evaluating}
 use Rattle.sig_computed.proofs.Asks.{HasAsked, asked_most, exact_places, none_asked}
 use Rattle.sig_computed.proofs.Measure.{work}
-use Rattle.sig_computed.proofs.Loops.{IsTurn, frame_can, made_by, notes_count, turn_asked, turn_frames, turn_given, turn_less, turn_move, turn_whole}
+use Rattle.sig_computed.proofs.Loops.{IsTurn, frame_can, made_by, notes_count, turn_asked, turn_frames, turn_given, turn_less, turn_move, turn_whole, visits_same}
 use Rattle.sig_computed.proofs.Wholes.{IsWhole, first_whole, last_whole}
 use Rattle.sig_computed.proofs.Names.{can_still}
 use Rattle.sig_computed.proofs.settler.bring_up.Goals as goal
@@ -113,7 +113,7 @@ loop-going-smaller g c =
     (held c.in_ok-going.going c.apply.new.frame (tops c.apply.new.stack.items)) c.apply.new.visited
     (made_by c.turn_of.new.graph c.apply.new.graph (frame_of c.loop-going.frame) (tops c.loop-going.stack.items) (held c.in_ok-going.going c.apply.new.frame (tops c.apply.new.stack.items))
     c.loop-going.visited c.apply.new.visited mv c.turn_of.new.frame.id c.in_ok-turn.ensures.id c.in_ok-going.ensures.stack
-    (λ m. c.in_ok-going.ensures.visited m) c.in_ok-going.ensures.graph))
+    (λ m. c.in_ok-going.ensures.visited m ∙ visits_same c.turn_of.new.frame.id m mv c.turn_of.new.visited c.loop-going.visited (c.in_ok-turn.ensures.visited m)) c.in_ok-going.ensures.graph))
 
 pub loop-going-preserved : goal.loop-going-preserved
 loop-going-preserved g c =
@@ -133,7 +133,7 @@ loop-going-preserved g c =
     } in
     let d = made_by c.turn_of.new.graph c.apply.new.graph (frame_of c.loop-going.frame) (tops c.loop-going.stack.items) (held c.in_ok-going.going c.apply.new.frame (tops c.apply.new.stack.items))
     c.loop-going.visited c.apply.new.visited mv c.turn_of.new.frame.id c.in_ok-turn.ensures.id c.in_ok-going.ensures.stack
-    (λ m. c.in_ok-going.ensures.visited m) c.in_ok-going.ensures.graph in
+    (λ m. c.in_ok-going.ensures.visited m ∙ visits_same c.turn_of.new.frame.id m mv c.turn_of.new.visited c.loop-going.visited (c.in_ok-turn.ensures.visited m)) c.in_ok-going.ensures.graph in
     let can = frame_can c.args.graph.now c.loop-going.graph c.loop-going.frame c.loop-going.stack.items c.loop-going.frame.id _ _ (length c.args.notes.now.items) (length c.loop-going.notes.items) i.signals
     c.made-made.ensures.few (subst (HasStack c.loop-going.graph) up i.frames) c.requires.there c.requires.room (omega arith) (omega arith)
     (subst (HasAsked c.args.graph.now.state.signals _ _ (length c.args.notes.now.items) (length c.loop-going.notes.items)) up i.asked) in

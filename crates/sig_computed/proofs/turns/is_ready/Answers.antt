@@ -1,4 +1,4 @@
-use Rattle.std.proofs.Common.{cond, sym, ap, ◌∙◌, subst}
+use Rattle.std.proofs.Common.{cond, refl, sym, ap, ◌∙◌, subst}
 use Rattle.signal_model.specs.Signals.{standing, is_in}
 use Rattle.sig_nodes.specs.States.{is_computing}
 use Rattle.sig_computed.specs.Skips.{look_steps, passed_over}
@@ -16,13 +16,14 @@ returns-then-is_last c =
       ready = ready_visited (standing s.signals c.args.id) (is_in c.args.id (evaluating s)) (is_in c.args.id (passed_over s.signals s.memos visited))
           (over_visited s.signals s.memos visited c.args.id (c.is_last.ensures c.if-is_last.true));
       after = stays_here c.args.graph.now (look_steps (standing s.signals c.args.id) (is_in c.args.id (evaluating s)) (is_in c.args.id visited));
+      visited = λ m. refl;
     }
 
 pub returns-then-has-clause-ready : goal.returns-then-has-clause-ready
 returns-then-has-clause-ready c =
     let s = c.args.graph.now.state in
     let visited = c.args.visited.now in
-    sym (over_visited s.signals s.memos visited c.args.id (sym c.if-has.ensures))
+    sym (over_visited s.signals s.memos visited c.args.id (sym (sym c.if-has.true ∙ c.in_ok-has-in-Computed.ensures.has)))
     ∙ ready_computed (standing s.signals c.args.id) (is_computing s c.args.id) (is_in c.args.id (evaluating s))
     (is_in c.args.id (passed_over s.signals s.memos visited)) c.in-Computed.ensures (in_evaluating s c.args.id)
 
@@ -32,7 +33,7 @@ returns-else-has-clause-ready c =
     let visited = c.args.visited.now in
     c.is_clean.ensures.clean
     ∙ over_clean s.signals s.memos visited c.args.id (kind_computed (standing s.signals c.args.id) (is_computing s c.args.id) c.in-Computed.ensures)
-    (sym c.if-has.ensures)
+    (sym (sym c.if-has.false ∙ c.in_ok-has-in-Computed.ensures.has))
     ∙ ready_computed (standing s.signals c.args.id) (is_computing s c.args.id) (is_in c.args.id (evaluating s))
     (is_in c.args.id (passed_over s.signals s.memos visited)) c.in-Computed.ensures (in_evaluating s c.args.id)
 
@@ -40,7 +41,7 @@ pub returns-else-has-clause-after : goal.returns-else-has-clause-after
 returns-else-has-clause-after c =
     let s = c.args.graph.now.state in
     let visited = c.args.visited.now in
-    let off = c.if-has.ensures
+    let off = (sym c.if-has.false ∙ c.in_ok-has-in-Computed.ensures.has)
     ∙ ready_computed (standing s.signals c.args.id) (is_computing s c.args.id) (is_in c.args.id (evaluating s))
     (is_in c.args.id visited) c.in-Computed.ensures (in_evaluating s c.args.id) in
     subst (Stays c.args.graph.now c.is_clean.new.graph s.progress) (ap (λ b. cond b 0 1) off) c.is_clean.ensures.after
@@ -54,4 +55,5 @@ returns-in_default c =
           (is_in c.args.id (passed_over s.signals s.memos visited)) (λ k. c.in_default.not-Computed (c.standing.ensures ∙ k)) (in_evaluating s c.args.id);
       after = stays_here c.args.graph.now
           (look_steps (standing s.signals c.args.id) (is_in c.args.id (evaluating s)) (is_in c.args.id visited));
+      visited = λ m. refl;
     }

@@ -9,10 +9,10 @@ use Rattle.sig_computed.proofs.turns.look.Goals as goal
 pub returns-clause-turn : goal.returns-clause-turn
 returns-clause-turn c =
     let s = c.args.graph.now.state in
-    let a = c.is_ready.ensures.after in
+    let a = c.in_ok-ready.ensures.after in
     let visited = c.args.visited.now in
     c.decide.ensures.turn
     ∙ (λ i. decided (holds_cycle (a.memos i) c.args.frame.now.id)
     (first_moved (a.memos i) (evaluating_stays c.args.graph.now c.is_ready.new.graph _ a i) (drop c.args.place (sources_of (a.memos i) c.args.frame.now.id))) c.args.place)
     ∙ look_decides s.signals s.memos (evaluating s) (passed_over s.signals s.memos visited) visited (holds_cycle s.memos c.args.frame.now.id) c.args.place
-    (drop c.args.place (sources_of s.memos c.args.frame.now.id)) c.in-Some.id c.in-Some.ensures.name (sym c.if-not-is_ready.ensures.ready)
+    (drop c.args.place (sources_of s.memos c.args.frame.now.id)) c.in-Some.id c.in-Some.ensures.name (sym c.in_ok-ready.ensures.ready ∙ c.if-not-ready.false)

@@ -11,13 +11,13 @@ use Rattle.sig_computed.proofs.turns.wait.Goals as goal
 pub returns-clause-turn : goal.returns-clause-turn
 returns-clause-turn c =
     let s = c.args.graph.now.state in
-    let a = c.is_ready.ensures.after in
+    let a = c.in_ok-ready.ensures.after in
     let over = passed_over s.signals s.memos c.args.visited.now in
     let known = c.args.frame.now.learnt.known.items in
     let reads = map seen_of c.args.frame.now.learnt.reads.items in
     let id = c.slot_of-id.result in
     c.in_ok-turn.ensures.turn
-    ∙ waits_read s.signals s.memos (evaluating s) over c.args.slot id c.in_ok-outcome.outcome known reads (sym c.if-not-is_ready.ensures.ready)
+    ∙ waits_read s.signals s.memos (evaluating s) over c.args.slot id c.in_ok-outcome.outcome known reads (sym c.in_ok-ready.ensures.ready ∙ c.if-not-ready.false)
     (c.in_ok-outcome.ensures
     ∙ (λ i. or_cycle (ready_outcome (standing (a.signals i) id) (is_in id (evaluating_stays c.args.graph.now c.is_ready.new.graph _ a i))
     (standing_outcome (a.signals i) (a.memos i) id))))
