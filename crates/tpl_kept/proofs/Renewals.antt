@@ -6,4 +6,5 @@ pub mod Rounds
 pub mod Changes
 pub mod Nameless
 pub mod Silent
+pub mod Tables
 pub mod Turns

@@ -42,10 +42,15 @@ nameless (choice f one other rest) = slotless f && (nameless one && (nameless ot
 nameless (each f inner rest) = false
 nameless (attempt first second rest) = false
 
--- what was kept in each of some rows read no name, as far as something was
-abbrev pub AreNameless : List (Option RowRef) → List PageMemo → Type 0
-AreNameless [] ms = Unit {0}
-AreNameless (r ∷ rs) ms = (is_unread (first_of ms) ≡ false → ReadsNone (first_of ms)) × AreNameless rs (later_of ms)
+-- what was kept in so many rows read no name, as far as something was
+abbrev pub AreNameless : ℕ → List PageMemo → Type 0
+AreNameless zero ms = Unit {0}
+AreNameless (suc n) ms = (is_unread (first_of ms) ≡ false → ReadsNone (first_of ms)) × AreNameless n (later_of ms)
+
+-- something was kept in each of so many rows, and it read no name
+abbrev pub ReadNone : ℕ → List PageMemo → Type 0
+ReadNone zero ms = Unit {0}
+ReadNone (suc n) ms = ReadsNone (first_of ms) × ReadNone n (later_of ms)
 
 -- what was kept in so many rows, one after the other, is put behind what is kept, and that it stays behind what became of that
 abbrev pub KeepsRows : ℕ → List (Option RowRef) → List PageMemo → List PageMemo → List Change →

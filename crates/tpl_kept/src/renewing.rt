@@ -2,6 +2,7 @@
 mod looking;
 mod names;
 mod parts;
+mod places;
 mod round;
 mod rows;
 mod silent;

@@ -202,7 +202,7 @@ each_few ends b links (r ∷ rs) a c ms ks x = elim (where_over (ends && failed 
   | inr y ↦ (let i = each_few ends b links rs x.mid c (ms ++ x.memo ∷ []) ks y.1 in let k = length_more ms x.memo in omega (arith, i, k))
 ]
 
-places_count : (t : Table) (i n : ℕ) → length (places_from t i n) ≡ n
+pub places_count : (t : Table) (i n : ℕ) → length (places_from t i n) ≡ n
 places_count t i zero = refl
 places_count t i (suc n) = ap suc (places_count t (suc i) n)
 

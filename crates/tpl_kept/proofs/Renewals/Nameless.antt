@@ -1,6 +1,7 @@
 -- Lines that read no name stay, and others are brought up to date behind them.
-use Rattle.std.proofs.Common.{◌≡◌, ℕ, zero, suc, ◌<◌, ◌≤◌, false, List, [], ◌∷◌, ◌++◌, length, get_or, map, Option, refl, sym, ap, subst, ◌∙◌, append_assoc, arith}
-use Rattle.std.proofs.lemmas.List.{append-nil}
+use Rattle.std.proofs.Common.{◌≡◌, ℕ, zero, suc, ◌+◌, ◌-◌, ◌<◌, ◌≤◌, false, List, [], ◌∷◌, ◌++◌, drop, length, map, replicate, take, Option, refl, sym, ap, subst, ◌∙◌, append_assoc, arith}
+use Rattle.std.proofs.lemmas.Bool.{true≢false}
+use Rattle.std.proofs.lemmas.List.{append-nil, map-append, replicate_more}
 use Rattle.sig_formula.specs.declared.formula.RowRef.{RowRef}
 use Rattle.tpl_model.specs.Lines.{Block}
 use Rattle.tpl_hearing.specs.Heard.{Outcomes}
@@ -11,13 +12,9 @@ use Rattle.tpl_kept.proofs.Listened.Reuse.{stayed}
 use Rattle.tpl_kept.specs.Heads.{AreRows, MakesEach}
 use Rattle.tpl_kept.specs.Turns.{WereEach, first_of, later_of}
 use Rattle.tpl_kept.specs.Changes.{TellsEach}
-use Rattle.tpl_kept.specs.Nameless.{KeepsFront, KeepsRows, ReadsNone}
+use Rattle.tpl_kept.specs.Nameless.{AreNameless, KeepsFront, KeepsRows, ReadNone, ReadsNone}
+use Rattle.tpl_kept.specs.Renewals.{is_unread}
 use Rattle.tpl_kept.proofs.Renewals.Changes.{stays_told}
-
--- what comes first
-pub front_kept : {A : Type 0} (f : A → PageMemo) (xs : List A) (x : A) → 0 < length xs → x ≡ get_or xs 0 x → first_of (map f xs) ≡ f x
-front_kept f [] x lt is = absurd (omega (arith, lt))
-front_kept f (y ∷ ys) x lt is = ap f (sym is)
 
 -- lines of which neither the first nor those inside it and behind it read a name
 pub blank_none : ReadsNone blank
@@ -103,16 +100,55 @@ fronts_told (suc n) b links before (r ∷ rows) left was later dones put after c
 pub no_front : (rows : List (Option RowRef)) (was dones : List PageMemo) (changes : List Change) → KeepsFront rows was dones changes rows was dones changes
 no_front rows was dones changes = record { count = 0; keeps = (refl, (refl, (refl, refl))) }
 
--- one, and some of those behind it
-pub one_front : (rows : List (Option RowRef)) (row : Option RowRef) (others left : List (Option RowRef)) (was next later dones mid put : List PageMemo)
-    (changes more added : List Change) → rows ≡ row ∷ others → ReadsNone (first_of was) → next ≡ later_of was → mid ≡ dones ++ first_of was ∷ [] →
-    more ≡ changes ++ stays ∷ [] → KeepsFront others next mid more left later put added → KeepsFront rows was dones changes left later put added
-one_front rows row others left was next later dones mid put changes more added split none el em ec front = record {
-  count = suc front.count;
-  keeps = subst (λ z. KeepsRows (suc front.count) z was dones changes left later put added) (sym split) (
-    none,
-    subst (λ y. y) (λ i. KeepsRows front.count others (el i) (em i) (ec i) left later put added) front.keeps,
-  );
+-- ---- so many of them
+
+-- what became of one more is that it stays
+pub stays_put : {A : Type 0} (f : A → Change) (old now more : List A) (x : A) (i : ℕ) → map f now ≡ map f old ++ replicate i stays →
+    more ≡ now ++ x ∷ [] → f x ≡ stays → map f more ≡ map f old ++ replicate (i + 1) stays
+stays_put f old now more x i e p q =
+    ap (map f) p
+    ∙ (map-append f now (x ∷ [])
+    ∙ ((λ j. e j ++ q j ∷ [])
+    ∙ (append_assoc (map f old) (replicate i stays) (stays ∷ []) ∙ ap (λ z. map f old ++ z) (replicate_more i stays))))
+
+-- one more
+pub more_nameless : (n : ℕ) (m : PageMemo) (ms ks : List PageMemo) → 0 < n → ks ≡ m ∷ ms → AreNameless n ks →
+    (is_unread m ≡ false → ReadsNone m) × AreNameless (n - 1) ms
+more_nameless zero m ms ks lt e a = absurd (omega (arith, lt))
+more_nameless (suc n) m ms ks lt e a =
+    let p : suc n - 1 ≡ n = omega arith in
+    let k = subst (AreNameless (suc n)) e a in
+    (k.0, subst (λ z. AreNameless z ms) (sym p) k.1)
+
+pub more_read : (n : ℕ) (m : PageMemo) (ms ks : List PageMemo) → ks ≡ m ∷ ms → ReadsNone m → ReadNone n ms → ReadNone (1 + n) ks
+more_read n m ms ks e r a =
+    let p : 1 + n ≡ suc n = omega arith in
+    subst (λ z. ReadNone z ks) (sym p) (subst (ReadNone (suc n)) (sym e) (r, a))
+
+-- something was kept in each of them
+pub few_read : (n : ℕ) (ms : List PageMemo) → ReadNone n ms → n ≤ length ms
+few_read zero ms r = omega arith
+few_read (suc n) [] r = absurd (true≢false r.0.read)
+few_read (suc n) (m ∷ ms) r = let k = few_read n ms r.1 in omega (arith, k)
+
+all_keep : (n : ℕ) (rows : List (Option RowRef)) (was dones : List PageMemo) (changes : List Change) → n ≤ length rows → ReadNone n was →
+    KeepsRows n rows was dones changes (drop n rows) (drop n was) (dones ++ take n was) (changes ++ replicate n stays)
+all_keep zero rows was dones changes le r = (refl, (refl, (sym (append-nil dones), sym (append-nil changes))))
+all_keep (suc n) [] was dones changes le r = absurd (omega (arith, le))
+all_keep (suc n) (x ∷ rows) [] dones changes le r = absurd (true≢false r.0.read)
+all_keep (suc n) (x ∷ rows) (m ∷ was) dones changes le r = (
+  r.0,
+  subst (λ y. y)
+      (λ i. KeepsRows n rows was (dones ++ m ∷ []) (changes ++ stays ∷ []) (drop n rows) (drop n was) (append_assoc dones (m ∷ []) (take n was) i) (append_assoc changes (stays ∷ []) (replicate n stays) i))
+      (all_keep n rows was (dones ++ m ∷ []) (changes ++ stays ∷ []) (omega (arith, le)) r.1),
+)
+
+pub all_front : (n : ℕ) (rows left : List (Option RowRef)) (was later dones put : List PageMemo) (changes added : List Change) → n ≤ length rows →
+    ReadNone n was → left ≡ drop n rows → later ≡ drop n was → put ≡ dones ++ take n was → added ≡ changes ++ replicate n stays →
+    KeepsFront rows was dones changes left later put added
+all_front n rows left was later dones put changes added le r el ew ep ea = record {
+  count = n;
+  keeps = subst (λ y. y) (λ i. KeepsRows n rows was dones changes (sym el i) (sym ew i) (sym ep i) (sym ea i)) (all_keep n rows was dones changes le r);
 }
 
 -- so it is for the first, however many they are

@@ -1,31 +1,31 @@
 -- What is kept of lines in some rows, while it is brought up to date where it stands.
-use Rattle.std.proofs.Common.{◌≡◌, ℕ, zero, suc, ◌+◌, ◌<◌, ◌≤◌, List, [], ◌∷◌, ◌++◌, drop, length, map, take, refl, sym, ap, ◌∙◌, arith}
-use Rattle.std.proofs.lemmas.List.{drop_all}
+use Rattle.std.proofs.Common.{◌≡◌, ℕ, zero, suc, ◌+◌, ◌≤◌, List, [], ◌∷◌, ◌++◌, drop, length, map, take, sym, ap, ◌∙◌, arith}
+use Rattle.std.proofs.Math.Seq.{drop-nil, take-add}
+use Rattle.std.proofs.lemmas.List.{drop-map, drop_all, map-append, take-map}
 use Rattle.tpl_model.specs.PageUpdates.PageMemos.{PageMemo, unread}
-use Rattle.tpl_kept.specs.Turns.{first_of, later_of}
+use Rattle.tpl_kept.specs.Turns.{first_of}
 
 -- ---- nothing was kept next
 
 pub none_first : {A : Type 0} (f : A → PageMemo) (xs : List A) (n : ℕ) (m : PageMemo) → m ≡ unread → length xs ≤ n → m ≡ first_of (map f (drop n xs))
 none_first f xs n m e le = e ∙ ap (λ z. first_of (map f z)) (sym (drop_all n xs le))
 
--- ---- it stays
+-- ---- all was gone over
 
-later_left : {A : Type 0} (f : A → PageMemo) (xs : List A) (n : ℕ) → map f (drop (suc n) xs) ≡ later_of (map f (drop n xs))
-later_left f [] zero = refl
-later_left f [] (suc n) = refl
-later_left f (x ∷ xs) zero = refl
-later_left f (x ∷ xs) (suc n) = later_left f xs n
+pub none_left : {A : Type 0} (f : A → PageMemo) (xs : List A) (n : ℕ) → length xs ≤ n → [] ≡ map f (drop n xs)
+none_left f xs n le = ap (map f) (sym (drop_all n xs le))
 
-first_done : {A : Type 0} (f : A → PageMemo) (xs : List A) (n : ℕ) → n < length xs →
-    map f (take (suc n) xs) ≡ map f (take n xs) ++ first_of (map f (drop n xs)) ∷ []
-first_done f [] n lt = absurd (omega (arith, lt))
-first_done f (x ∷ xs) zero lt = refl
-first_done f (x ∷ xs) (suc n) lt = ap (λ z. f x ∷ z) (first_done f xs n (omega (arith, lt)))
+-- ---- some stay
 
-pub keep_later : {A : Type 0} (f : A → PageMemo) (xs : List A) (n : ℕ) → map f (drop (n + 1) xs) ≡ later_of (map f (drop n xs))
-keep_later f xs n = let e : n + 1 ≡ suc n = omega arith in ap (λ z. map f (drop z xs)) e ∙ later_left f xs n
+pub drop_more : {A : Type 0} (n k : ℕ) (xs : List A) → drop (n + k) xs ≡ drop k (drop n xs)
+drop_more zero k xs = let e : 0 + k ≡ k = omega arith in ap (λ z. drop z xs) e
+drop_more (suc n) k [] = drop-nil (suc n + k) ∙ sym (drop-nil k)
+drop_more (suc n) k (x ∷ xs) = let e : suc n + k ≡ suc (n + k) = omega arith in ap (λ z. drop z (x ∷ xs)) e ∙ drop_more n k xs
 
-pub keep_done : {A : Type 0} (f : A → PageMemo) (xs : List A) (n : ℕ) → n < length xs →
-    map f (take (n + 1) xs) ≡ map f (take n xs) ++ first_of (map f (drop n xs)) ∷ []
-keep_done f xs n lt = let e : n + 1 ≡ suc n = omega arith in ap (λ z. map f (take z xs)) e ∙ first_done f xs n lt
+pub some_left : {A : Type 0} (f : A → PageMemo) (xs : List A) (n k : ℕ) → map f (drop (n + k) xs) ≡ drop k (map f (drop n xs))
+some_left f xs n k = ap (map f) (drop_more n k xs) ∙ sym (drop-map f k (drop n xs))
+
+pub some_done : {A : Type 0} (f : A → PageMemo) (xs : List A) (n k : ℕ) → map f (take (n + k) xs) ≡ map f (take n xs) ++ take k (map f (drop n xs))
+some_done f xs n k =
+    ap (map f) (take-add n k xs)
+    ∙ (map-append f (take n xs) (take k (drop n xs)) ∙ ap (λ z. map f (take n xs) ++ z) (sym (take-map f k (drop n xs))))

@@ -127,7 +127,7 @@ first_silent b links before row m e was u =
 
 -- so it is in each of some rows
 pub are_silent : (b : Block) (links : List ℕ) (before : Outcomes) (rows : List (Option RowRef)) (was : List PageMemo) → nameless b ≡ true →
-    WereEach b links rows before was → AreNameless rows was
+    WereEach b links rows before was → AreNameless (length rows) was
 are_silent b links before [] was e all = tt
 are_silent b links before (r ∷ rows) was e all = (
   (λ u. first_silent b links before r (first_of was) e all.0 u),

@@ -10,7 +10,7 @@ use Rattle.tpl_model.specs.KeptLines.Before.{WasMade}
 use Rattle.tpl_kept.specs.Renewals.{WasMadeIfRead, AreChanged}
 use Rattle.tpl_kept.proofs.Listened.Splits.{changed_remade}
 use Rattle.tpl_kept.specs.declared.making.head.Head.{Head}
-use Rattle.tpl_kept.specs.Heads.{AreRows, IsRow, MakesEach, Opens, closed, inner_in, lines_size, places_in, rest_in}
+use Rattle.tpl_kept.specs.Heads.{AreRows, IsRow, MakesEach, Opens, closed, inner_in, lines_size, rest_in}
 use Rattle.tpl_kept.proofs.Made.Memos.{behind_are, behind_few, behind_smaller, grows_on, inside_are, inside_smaller, line_made, more_each}
 use Rattle.tpl_kept.specs.Turns.{Begins, OpensAgain, ServeInside, WereEach, behind_of, first_of, kept_of, later_of, outcome_of, places_of, shows_of}
 use Rattle.tpl_kept.specs.declared.renewing.parts.First.{First}
@@ -150,14 +150,6 @@ begins_whole b links row at before a c first m k ins later e r x =
 pub begins_line : (b : Block) (links : List ℕ) (row : Option RowRef) (before a c : Outcomes) (first : First) (h : Head) (ins later : List PageMemo) →
     first ≡ start.Line h → OpensAgain b links row before a c h ins later → Begins b links row before a c first ins later
 begins_line b links row before a c first h ins later e x = subst (λ z. Begins b links row before a c z ins later) (sym e) x
-
-pub places_whole : (first : First) (m k : _) (row : Option RowRef) (places : List (Option RowRef)) →
-    first ≡ start.Whole (record { memo = m; change = k }) → places ≡ [] → places ≡ places_of first row
-places_whole first m k row places e p = p ∙ ap (λ z. places_of z row) (sym e)
-
-pub places_line : (first : First) (h : Head) (row at : Option RowRef) (places : List (Option RowRef)) → first ≡ start.Line h → at ≡ row →
-    places ≡ places_in false h at → places ≡ places_of first row
-places_line first h row at places e r p = p ∙ (ap (places_in false h) r ∙ ap (λ z. places_of z row) (sym e))
 
 -- what was kept inside, behind, and in the other rows
 pub inside_at : (b : Block) (links : List ℕ) (row : Option RowRef) (before a c : Outcomes) (first : First) (is rs : List PageMemo) (inner : Block)

@@ -1,6 +1,6 @@
 // What is known of kept lines before they are gone over. It decides what is looked at, and nothing of what comes of it.
 
-use crate::renewing::parts::Turn;
+use crate::renewing::round::Round;
 use tpl_model::{Change, PageMemo};
 
 /// What is known of kept lines, and what is done for it.
@@ -22,11 +22,11 @@ pub(crate) fn hears_first(look: Look) -> bool {
 }
 
 // Whether a name of lines that are gone over is known to have another outcome, and it is none of the first line.
-fn is_behind(look: Look, turn: &Turn) -> bool {
+fn is_behind(look: Look, heard: bool) -> bool {
     match look {
-        Look::First => turn.heard,
-        Look::Changed => turn.heard,
-        Look::Late => turn.heard,
+        Look::First => heard,
+        Look::Changed => heard,
+        Look::Late => heard,
         Look::Over => false,
     }
 }
@@ -39,9 +39,10 @@ fn is_end(memo: Option<&PageMemo>) -> bool {
     }
 }
 
-/// What is known of the lines inside the first one: where no line is behind it and it has one inside, what has changed stands there.
-pub(crate) fn look_inside(look: Look, turn: &Turn) -> Look {
-    if is_behind(look, turn) && turn.places.len() == 1 && is_end(turn.later.front()) {
+/// What is known of the lines inside the first one, which are gone over so often, where `heard` says whether all names of that have the outcomes of
+/// before: where no line is behind it and those inside stand once, what has changed stands there.
+pub(crate) fn look_inside(look: Look, heard: bool, count: usize, later: &Round) -> Look {
+    if is_behind(look, heard) && count == 1 && is_end(later.front()) {
         return Look::Changed;
     }
     Look::First
@@ -69,7 +70,7 @@ fn look_on(look: Look, behind: bool) -> Look {
 }
 
 /// What is known of the lines behind the first one, of which the inside was gone over: where all stays there, what has changed is behind it.
-pub(crate) fn look_behind(look: Look, turn: &Turn) -> Look {
-    let behind = is_behind(look, turn) && all_stay(&turn.inside_changes);
+pub(crate) fn look_behind(look: Look, heard: bool, inside: &[Change]) -> Look {
+    let behind = is_behind(look, heard) && all_stay(inside);
     look_on(look, behind)
 }

@@ -1,19 +1,20 @@
 // What was kept of lines, taken apart, and what is kept of the first of them next.
 ghost use Rattle.std.specs.Prelude.{◌≡◌, ◌++◌, ◌∷◌, [], false, map, IfOk, OnOk};
-ghost use Rattle.std.specs.Option.{option_copied};
 ghost use Rattle.tpl_model.specs.KeptLines.Kept.{kept};
 ghost use Rattle.tpl_model.specs.KeptLines.Changes.{chain, changed, over};
 ghost use Rattle.tpl_model.specs.KeptLines.Memos.{truth_in};
 ghost use Rattle.tpl_kept.specs.Renewals.{is_unread};
-ghost use Rattle.tpl_kept.specs.Heads.{last_of, places_in};
+ghost use Rattle.tpl_kept.specs.Heads.{last_of};
+ghost use Rattle.tpl_kept.specs.Listed.{listed};
 ghost use Rattle.tpl_kept.specs.Changes.{changed_of, last_change};
 ghost use Rattle.tpl_kept.specs.Rounds.{done_of, was_of};
-ghost use Rattle.tpl_kept.specs.Turns.{behind_of, first_of, kept_of, later_of, outcome_of, shows_of, IsApart, IsSame, ServeInside};
+ghost use Rattle.tpl_kept.specs.Turns.{behind_of, first_of, kept_of, later_of, outcome_of, places_of, shows_of, IsApart, IsSame, ServeInside};
 ghost use Rattle.tpl_kept.specs.declared.making.head.Head.TheVariants as head;
 ghost use Rattle.tpl_kept.specs.declared.renewing.parts.First.TheVariants as start;
 
 use crate::listening::truth_of;
-use crate::making::{Head, close, last, place_behind, places_inside, shows_first};
+use crate::making::{Head, close, last, shows_first};
+use crate::renewing::places::{Places, behind_places, inside_places};
 use crate::renewing::round::Round;
 use crate::renewing::rows::rows_were;
 use sig_base::{Fault, NoMemory, Outcome};
@@ -37,14 +38,13 @@ pub(crate) enum First {
     Line(Head),
 }
 
-/// Lines that are brought up to date: what is kept of them next, where those inside the first of them are gone over, what is kept inside it and behind
-/// it while it is brought up to date, and what became of it; whether all names of the first have the outcomes of before, and whether it is the same.
+/// Lines that are brought up to date: what is kept of them next, what is kept inside the first of them and behind it while it is brought up to date, and
+/// what became of it; whether all names of the first have the outcomes of before, and whether it is the same.
 #[derive(Drop)]
 pub(crate) struct Turn {
     pub first: Box<First>,
     pub heard: bool,
     pub same: bool,
-    pub places: Vec<Option<RowRef>>,
     pub inside: Round,
     pub later: Round,
     pub inside_changes: Vec<Change>,
@@ -220,7 +220,6 @@ pub(crate) fn inside_was(
 /// `NoMemory` alone.
 pub(crate) fn whole(alloc: Global, memo: PageMemo, change: Change) -> Result<Turn, NoMemory>
     ensures first { IfOk result (λ t. t.first.value ≡ start.Whole (record { memo = memo; change = change })) }
-    ensures places { IfOk result (λ t. t.places.items ≡ []) }
     ensures inside { IfOk result (λ t. done_of t.inside ≡ []) }
     ensures later { IfOk result (λ t. done_of t.later ≡ []) }
     ensures inside_changes { IfOk result (λ t. t.inside_changes.items ≡ []) }
@@ -231,7 +230,6 @@ pub(crate) fn whole(alloc: Global, memo: PageMemo, change: Change) -> Result<Tur
         first,
         heard: true,
         same: true,
-        places: Vec::new(alloc),
         inside: Round::nothing(alloc),
         later: Round::nothing(alloc),
         inside_changes: Vec::new(alloc),
@@ -239,8 +237,8 @@ pub(crate) fn whole(alloc: Global, memo: PageMemo, change: Change) -> Result<Tur
     })
 }
 
-/// The first line was heard again, in the row where it stands, and whether all its names have the outcomes of before; `was` is what its test or its
-/// rows came to before. Each clause tells of one field of the turn that it gives, as nothing ties two of them.
+/// The first line was heard again, and whether all its names have the outcomes of before; `was` is what its test or its rows came to before. Each
+/// clause tells of one field of the turn that it gives, as nothing ties two of them.
 ///
 /// # Errors
 ///
@@ -252,11 +250,9 @@ pub(crate) fn taken_up(
     heard: bool,
     inside: Vec<PageMemo>,
     later: Box<PageMemo>,
-    row: Option<&RowRef>,
 ) -> Result<Turn, NoMemory>
     ensures first { IfOk result (λ t. t.first.value ≡ start.Line head.value) }
     ensures same { IfOk result (λ t. IsSame was.now head.value heard t.same) }
-    ensures places { IfOk result (λ t. t.places.items ≡ places_in false head.value (option_copied row.entry)) }
     ensures inside_was { IfOk result (λ t. ServeInside was.now head.value (map kept inside.items) (was_of t.inside)) }
     ensures later_was { IfOk result (λ t. was_of t.later ≡ kept later.value ∷ []) }
     ensures inside { IfOk result (λ t. done_of t.inside ≡ []) }
@@ -264,16 +260,14 @@ pub(crate) fn taken_up(
     ensures inside_changes { IfOk result (λ t. t.inside_changes.items ≡ []) }
     ensures later_changes { IfOk result (λ t. t.later_changes.items ≡ []) }
 {
-    let places = places_inside(alloc, &head, false, row)?;
-    let inside_changes = Vec::with_capacity(alloc, places.len())?;
     let inside = inside_was(alloc, heard, was, &head, inside)?;
+    let inside_changes = Vec::with_capacity(alloc, inside.0.memos.len())?;
     let later = Round::alone(alloc, Box::into_inner(later))?;
     let first = Box::new(alloc, First::Line(Box::into_inner(head)))?;
     Ok(Turn {
         first,
         heard,
         same: inside.1,
-        places,
         inside: inside.0,
         later,
         inside_changes,
@@ -281,13 +275,23 @@ pub(crate) fn taken_up(
     })
 }
 
-/// Where the lines behind the first of some are gone over, in the row where these stand.
-pub(crate) fn behind_of<'a>(first: &First, row: &'a Option<RowRef>) -> &'a [Option<RowRef>]
-    ensures { result.now ≡ behind_of first.now row.now }
+/// Where the lines inside the first of some are gone over, in the row where these stand.
+pub(crate) fn places_of<'a>(first: &'a First, row: &'a Option<RowRef>) -> Places<'a>
+    ensures { listed result ≡ places_of first.now row.now }
 {
     match first {
-        First::Whole(_) => &[],
-        First::Line(head) => place_behind(head, false, row),
+        First::Whole(_) => Places::Nowhere,
+        First::Line(head) => inside_places(head, row),
+    }
+}
+
+/// Where the lines behind the first of some are gone over, in the row where these stand.
+pub(crate) fn behind_of<'a>(first: &First, row: &'a Option<RowRef>) -> Places<'a>
+    ensures { listed result ≡ behind_of first.now row.now }
+{
+    match first {
+        First::Whole(_) => Places::Nowhere,
+        First::Line(head) => behind_places(head, row),
     }
 }
 
@@ -346,7 +350,6 @@ pub(crate) fn put_turn(
         first,
         heard: _heard,
         same,
-        places: _places,
         inside,
         later,
         inside_changes,

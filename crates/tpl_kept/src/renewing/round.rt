@@ -1,5 +1,5 @@
 // What is kept of lines in some rows, while it is brought up to date where it stands.
-ghost use Rattle.std.specs.Prelude.{◌≡◌, ◌<◌, ◌++◌, ◌∷◌, [], length, map, IfOk, IfSome, OnOk};
+ghost use Rattle.std.specs.Prelude.{◌≡◌, ◌≤◌, ◌++◌, ◌∷◌, [], drop, length, map, take, IfOk, OnOk};
 ghost use Rattle.tpl_model.specs.KeptLines.Kept.{kept};
 ghost use Rattle.tpl_kept.specs.Rounds.{done_of, was_of};
 ghost use Rattle.tpl_kept.specs.Turns.{first_of, later_of};
@@ -50,10 +50,18 @@ impl Round {
         Ok(Round::of(memos))
     }
 
-    /// What was kept in the next row, where something was.
-    pub fn front(&self) -> Option<&PageMemo>
-        ensures { IfSome result (λ m. (self.now.at < length self.now.memos.items) × (first_of (was_of self.now) ≡ kept m.now)) }
+    /// What was kept in the rows that are left.
+    pub fn left(&self) -> &[PageMemo]
+        ensures { map kept result.now ≡ was_of self.now }
     {
+        if self.at >= self.memos.len() {
+            return &[];
+        }
+        &self.memos[self.at..]
+    }
+
+    /// What was kept in the next row, where something was.
+    pub fn front(&self) -> Option<&PageMemo> {
         self.memos.get(self.at)
     }
 
@@ -69,13 +77,13 @@ impl Round {
         mem::replace(&mut self.memos[self.at], PageMemo::Unread)
     }
 
-    /// What was kept in the next row stays.
-    pub fn keep(&mut self)
-        requires { self.old.at < length self.old.memos.items }
-        ensures later { was_of self.new ≡ later_of (was_of self.old) }
-        ensures done { done_of self.new ≡ done_of self.old ++ first_of (was_of self.old) ∷ [] }
+    /// What was kept in so many of the next rows stays.
+    pub fn keep(&mut self, count: usize)
+        requires { count ≤ length (was_of self.old) }
+        ensures later { was_of self.new ≡ drop count (was_of self.old) }
+        ensures done { done_of self.new ≡ done_of self.old ++ take count (was_of self.old) }
     {
-        self.at += 1;
+        self.at += count;
     }
 
     /// This is kept in the next row.

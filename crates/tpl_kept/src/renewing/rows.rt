@@ -112,7 +112,7 @@ fn alike(fields: bool, was: &Rows, at: usize, rows: &Rows, place: usize) -> bool
     fields && at < was.len() && was.row(at) == rows.row(place)
 }
 
-// The place of a row of the same key and values.
+// The place of a row of the same key and values: mostly it is the one behind the row that was found last.
 fn same_place(
     alloc: Global,
     fields: bool,
@@ -126,6 +126,11 @@ fn same_place(
     ensures inside { IfOk result (λ o. IfSome o (λ at. at < length was.now.rows)) }
     ensures same { IfOk result (λ o. IfSome o (λ at. same_here (record { rows = was.now; place = at }) (record { rows = rows.now; place = place }) ≡ true)) }
 {
+    let next = search.behind;
+    if alike(fields, was, next, rows, place) {
+        search.behind = next.saturating_add(1);
+        return Ok(Some(next));
+    }
     let found = place_by_key(alloc, search, was.rows(), &rows.row(place).key)?;
     let Some(at) = found else {
         return Ok(None);

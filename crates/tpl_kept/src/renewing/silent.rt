@@ -4,8 +4,9 @@ ghost use Rattle.sig_formula.specs.Trees.{tree};
 ghost use Rattle.tpl_blocks.specs.Blocks.{block};
 ghost use Rattle.tpl_kept.specs.Nameless.{all_slotless, nameless, slotless};
 
+use crate::renewing::places::{Places, count_places};
 use sig_base::Text;
-use sig_formula::{Formula, RowRef};
+use sig_formula::Formula;
 use tpl_blocks::Block;
 
 // Whether a formula has no slot.
@@ -56,8 +57,8 @@ fn nameless(lines: &Block) -> bool
 }
 
 /// Whether lines are known to read no name, which is looked at where they stand in rows.
-pub(crate) fn reads_nothing(rows: &[Option<RowRef>], lines: &Block) -> bool
+pub(crate) fn reads_nothing(rows: Places<'_>, at: usize, lines: &Block) -> bool
     ensures { result ≡ true → nameless (block lines.now) ≡ true }
 {
-    rows.len() > 1 && nameless(lines)
+    count_places(rows).saturating_sub(at) > 1 && nameless(lines)
 }

@@ -1,18 +1,18 @@
 // Lines that stay, though nothing is heard, since they read no name.
-ghost use Rattle.std.specs.Prelude.{◌≡◌, ◌<◌, ◌++◌, ◌∷◌, [], false, length, map, true, IfOk, OnOk};
+ghost use Rattle.std.specs.Prelude.{◌≡◌, ◌≤◌, ◌++◌, [], drop, false, length, map, replicate, true, IfOk, OnOk};
 ghost use Rattle.tpl_model.specs.KeptLines.Changes.{changed, stays};
 ghost use Rattle.tpl_model.specs.KeptLines.Kept.{heard_of, kept};
 ghost use Rattle.tpl_model.specs.PageUpdates.PageMemos.{all_names};
-ghost use Rattle.tpl_kept.specs.Nameless.{AreNameless, KeepsFront, ReadsNone};
+ghost use Rattle.tpl_kept.specs.Listed.{listed};
+ghost use Rattle.tpl_kept.specs.Nameless.{AreNameless, KeepsFront, ReadNone, ReadsNone};
 ghost use Rattle.tpl_kept.specs.Renewals.{is_unread};
 ghost use Rattle.tpl_kept.specs.Rounds.{done_of, was_of};
-ghost use Rattle.tpl_kept.specs.Turns.{first_of, later_of};
 
 use crate::renewing::looking::{Look, hears_first};
 use crate::renewing::parts::unread;
+use crate::renewing::places::{Places, count_places};
 use crate::renewing::round::Round;
 use sig_base::{NoMemory, NodeId};
-use sig_formula::RowRef;
 use tpl_model::{Change, Heard, PageMemo};
 
 // Whether there is no name.
@@ -62,57 +62,60 @@ fn is_quiet(silent: bool, memo: &PageMemo) -> bool
     reads_none(memo)
 }
 
-// Whether what was kept in the next row stays without a look at it: it read no name, and lines before it haven't changed.
-fn first_stays(look: Look, silent: bool, round: &Round) -> bool
-    requires { silent ≡ true → is_unread (first_of (was_of round.now)) ≡ false → ReadsNone (first_of (was_of round.now)) }
-    ensures inside { result ≡ true → round.now.at < length round.now.memos.items }
-    ensures none { result ≡ true → ReadsNone (first_of (was_of round.now)) }
+// How many of the first of what was kept read no name, of at most so many; of some lines it is known that they read none.
+fn count_front(silent: bool, most: usize, memos: &[PageMemo]) -> usize
+    requires { silent ≡ true → AreNameless most (map kept memos.now) }
+    ensures most { result ≤ most }
+    ensures none { ReadNone result (map kept memos.now) }
 {
-    if !hears_first(look) {
-        return false;
+    if most == 0 {
+        return 0;
     }
-    let Some(memo) = round.front() else {
-        return false;
+    let Some((memo, others)) = memos.split_first() else {
+        return 0;
     };
-    is_quiet(silent, memo)
+    if !is_quiet(silent, memo) {
+        return 0;
+    }
+    1 + count_front(silent, most - 1, others)
 }
 
-// What was kept in the next row stays.
-fn keep_first(round: &mut Round, changes: &mut Vec<Change>) -> Result<(), NoMemory>
-    requires { round.old.at < length round.old.memos.items }
-    ensures left { OnOk result (was_of round.new ≡ later_of (was_of round.old)) }
-    ensures kept { OnOk result (done_of round.new ≡ done_of round.old ++ first_of (was_of round.old) ∷ []) }
-    ensures changed { OnOk result (map changed changes.new.items ≡ map changed changes.old.items ++ stays ∷ []) }
+// Puts behind what became of lines that so many of them stay.
+fn put_stays(changes: &mut Vec<Change>, count: usize) -> Result<(), NoMemory>
+    ensures { OnOk result (map changed changes.new.items ≡ map changed changes.old.items ++ replicate count stays) }
 {
-    changes.push(Change::stays())?;
-    round.keep();
+    changes.reserve(count)?;
+    for _put in 0..count {
+        changes.push_reserved(Change::stays());
+    }
     Ok(())
 }
 
-/// What was kept in the first of some rows stays, as far as it does without a look at it; gives the rows that are left. Of some lines it is known that
-/// they read no name.
+/// What was kept in the first of the rows that are left stays, as far as it does without a look at it; gives where the others are left. Of some lines it
+/// is known that they read no name.
 ///
 /// # Errors
 ///
 /// `NoMemory` alone.
-pub(crate) fn keep_front<'a>(
+pub(crate) fn keep_front(
     look: Look,
     silent: bool,
-    rows: &'a [Option<RowRef>],
+    rows: Places<'_>,
+    at: usize,
     round: &mut Round,
     changes: &mut Vec<Change>,
-) -> Result<&'a [Option<RowRef>], NoMemory>
-    requires { silent ≡ true → AreNameless rows.now (was_of round.old) }
-    ensures { IfOk result (λ left. KeepsFront rows.now (was_of round.old) (done_of round.old) (map changed changes.old.items)
-        left.now (was_of round.new) (done_of round.new) (map changed changes.new.items)) }
+) -> Result<usize, NoMemory>
+    requires { silent ≡ true → AreNameless (length (drop at (listed rows))) (was_of round.old) }
+    ensures { IfOk result (λ n. KeepsFront (drop at (listed rows.entry)) (was_of round.old) (done_of round.old) (map changed changes.old.items)
+        (drop n (listed rows.entry)) (was_of round.new) (done_of round.new) (map changed changes.new.items)) }
 {
-    let Some((_, others)) = rows.split_first() else {
-        return Ok(rows);
-    };
-    if !first_stays(look, silent, round) {
-        return Ok(rows);
+    if !hears_first(look) {
+        return Ok(at);
     }
-    keep_first(round, changes)?;
-    let left = keep_front(look, silent, others, round, changes)?;
-    Ok(left)
+    let most = count_places(rows).saturating_sub(at);
+    let count = count_front(silent, most, round.left());
+    put_stays(changes, count)?;
+    round.keep(count);
+    let next = at + count;
+    Ok(next)
 }

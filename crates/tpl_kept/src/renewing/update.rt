@@ -1,5 +1,5 @@
 // What is kept of lines, brought up to date.
-ghost use Rattle.std.specs.Prelude.{◌≡◌, ◌<◌, ◌^◌, [], length, map, false, true, IfOk, IfSome, OnOk};
+ghost use Rattle.std.specs.Prelude.{◌≡◌, ◌<◌, ◌^◌, [], drop, length, map, false, true, IfOk, IfSome, OnOk};
 ghost use Rattle.std.specs.Option.{option_copied};
 ghost use Rattle.tpl_model.specs.PageUpdates.PageMemos.{names};
 ghost use Rattle.tpl_blocks.specs.Blocks.{block};
@@ -11,17 +11,19 @@ ghost use Rattle.tpl_kept.specs.Renewals.{AreLooked, WasMadeIfRead};
 ghost use Rattle.tpl_kept.specs.Heads.{AreRows, IsRow, IsTried, MakesEach, Opens};
 ghost use Rattle.tpl_model.specs.KeptLines.Changes.{changed, Tells};
 ghost use Rattle.tpl_kept.specs.Changes.{BeginsTold, TellsEach};
+ghost use Rattle.tpl_kept.specs.Listed.{listed};
 ghost use Rattle.tpl_kept.specs.Rounds.{done_of, was_of};
-ghost use Rattle.tpl_kept.specs.Turns.{places_of, Begins, IsWasTried, WasOpened, WasTried, WereEach};
+ghost use Rattle.tpl_kept.specs.Turns.{Begins, IsWasTried, WasOpened, WasTried, WereEach};
 
 use crate::listening::{listen_again, listen_all_again};
 use crate::making::{Head, hear_attempt, inner_of, last, lent_row, make, own_row, rest_of};
 use crate::renewing::looking::{Look, hears_first, look_behind, look_inside};
 use crate::renewing::names::put_names;
 use crate::renewing::parts::{
-    Parts, Renewed, Turn, apart, behind_of, last_change, outcome_of, put_turn, shows_of, taken_up,
-    unread, whole,
+    Parts, Renewed, Turn, apart, behind_of, last_change, outcome_of, places_of, put_turn, shows_of,
+    taken_up, unread, whole,
 };
+use crate::renewing::places::{Places, count_places, row_of};
 use crate::renewing::round::Round;
 use crate::renewing::silent::reads_nothing;
 use crate::renewing::staying::keep_front;
@@ -31,7 +33,6 @@ use sig_formula::RowRef;
 use sig_host::{Lent, Shelf};
 use sig_nodes::Graph;
 use std::alloc::Global;
-use std::slice;
 use tpl_blocks::Block;
 use tpl_hearing::{Outcomes, Rehearing, hear_again};
 use tpl_model::{Change, PageMemo};
@@ -232,7 +233,6 @@ fn begin(
     requires compared { AreCompared before.now hearing.old }
     requires was { WasMadeIfRead (lines_memo (block lines.now)) links.now row.now before.now (kept memo.value) }
     ensures begins { IfOk result (λ t. Begins (block lines.now) links.now row.now before.now hearing.old.heard hearing.new.heard t.first.value (was_of t.inside) (was_of t.later)) }
-    ensures places { IfOk result (λ t. t.places.items ≡ places_of t.first.value row.now) }
     ensures inside { IfOk result (λ t. done_of t.inside ≡ []) }
     ensures later { IfOk result (λ t. done_of t.later ≡ []) }
     ensures inside_changes { IfOk result (λ t. t.inside_changes.items ≡ []) }
@@ -268,7 +268,7 @@ fn begin(
         alloc, graph, shelf, before, hearing, lines, head, links, here, notes,
     )?;
     let head = Box::new(alloc, heard.0)?;
-    let turn = taken_up(alloc, &was, head, heard.1, inside, later, here)?;
+    let turn = taken_up(alloc, &was, head, heard.1, inside, later)?;
     Ok(turn)
 }
 
@@ -283,20 +283,21 @@ fn renew_each(
     hearing: &mut Rehearing,
     lines: &Block,
     links: &[NodeId],
-    rows: &[Option<RowRef>],
+    rows: Places<'_>,
+    at: usize,
     round: &mut Round,
     look: Look,
     notes: &mut Vec<RunNote>,
     changes: &mut Vec<Change>,
 ) -> Result<(), NoMemory>
-    requires few { length rows.now < 2 ^ 64 }
-    requires rows { AreRows rows.now }
+    requires few { length (drop at (listed rows)) < 2 ^ 64 }
+    requires rows { AreRows (drop at (listed rows)) }
     requires can { CanSettle (scene graph.old (⟦<Shelf as Lent>⟧.asked shelf.old) notes.old.items) }
     requires counted { ⟦<Shelf as Lent>⟧.counted shelf.old }
     requires compared { AreCompared before.now hearing.old }
-    requires was { WereEach (block lines.now) links.now rows.now before.now (was_of round.old) }
-    ensures made { OnOk result (MakesEach false (block lines.now) links.now rows.now hearing.old.heard hearing.new.heard (done_of round.old) (done_of round.new)) }
-    ensures told { OnOk result (TellsEach (block lines.now) links.now rows.now before.now (was_of round.old) (done_of round.old) (done_of round.new) (map changed changes.old.items) (map changed changes.new.items)) }
+    requires was { WereEach (block lines.now) links.now (drop at (listed rows)) before.now (was_of round.old) }
+    ensures made { OnOk result (MakesEach false (block lines.now) links.now (drop at (listed rows.entry)) hearing.old.heard hearing.new.heard (done_of round.old) (done_of round.new)) }
+    ensures told { OnOk result (TellsEach (block lines.now) links.now (drop at (listed rows.entry)) before.now (was_of round.old) (done_of round.old) (done_of round.new) (map changed changes.old.items) (map changed changes.new.items)) }
     ensures after { OnOk result (Hears
         (scene graph.old (⟦<Shelf as Lent>⟧.asked shelf.old) notes.old.items) (scene graph.new (⟦<Shelf as Lent>⟧.asked shelf.new) notes.new.items)
         (λ hosts. ⟦<Shelf as Lent>⟧.answers hosts shelf.old) (λ hosts. ⟦<Shelf as Lent>⟧.answers hosts shelf.new) hearing.old.heard hearing.new.heard) }
@@ -304,35 +305,40 @@ fn renew_each(
     ensures counted { OnOk result (⟦<Shelf as Lent>⟧.counted shelf.new) }
     ensures compared { OnOk result (AreCompared before.now hearing.new) }
 {
-    let silent = reads_nothing(rows, lines);
-    let rows = keep_front(look, silent, rows, round, changes)?;
-    let Some((row, others)) = rows.split_first() else {
+    let silent = reads_nothing(rows, at, lines);
+    let at = keep_front(look, silent, rows, at, round, changes)?;
+    let count = count_places(rows);
+    if at >= count {
         return Ok(());
-    };
+    }
+    let row = row_of(rows, at)?;
     let memo = round.take();
     let memo = Box::new(alloc, memo)?;
     let mut turn = begin(
-        alloc, graph, shelf, before, hearing, lines, memo, look, links, row, notes,
+        alloc, graph, shelf, before, hearing, lines, memo, look, links, &row, notes,
     )?;
-    let inner = inner_of(lines, shows_of(&turn.first));
-    let within = look_inside(look, &turn);
-    let places = &turn.places;
-    let inside = &mut turn.inside;
-    let told = &mut turn.inside_changes;
+    let parts = &mut turn;
+    let inner = inner_of(lines, shows_of(&parts.first));
+    let places = places_of(&parts.first, &row);
+    let many = count_places(places);
+    let within = look_inside(look, parts.heard, many, &parts.later);
+    let inside = &mut parts.inside;
+    let told = &mut parts.inside_changes;
     renew_each(
-        alloc, graph, shelf, before, hearing, inner, links, places, inside, within, notes, told,
+        alloc, graph, shelf, before, hearing, inner, links, places, 0, inside, within, notes, told,
     )?;
     let rest = rest_of(lines);
-    let behind = behind_of(&turn.first, row);
-    let after = look_behind(look, &turn);
-    let later = &mut turn.later;
-    let told = &mut turn.later_changes;
+    let behinds = behind_of(&parts.first, &row);
+    let after = look_behind(look, parts.heard, &parts.inside_changes);
+    let later = &mut parts.later;
+    let told = &mut parts.later_changes;
     renew_each(
-        alloc, graph, shelf, before, hearing, rest, links, behind, later, after, notes, told,
+        alloc, graph, shelf, before, hearing, rest, links, behinds, 0, later, after, notes, told,
     )?;
     put_turn(alloc, turn, round, changes)?;
+    let next = at + 1;
     renew_each(
-        alloc, graph, shelf, before, hearing, lines, links, others, round, look, notes, changes,
+        alloc, graph, shelf, before, hearing, lines, links, rows, next, round, look, notes, changes,
     )?;
     Ok(())
 }
@@ -385,7 +391,8 @@ pub fn renew(
         hearing,
         lines,
         links,
-        slice::from_ref(&own),
+        Places::Alone(&own),
+        0,
         &mut round,
         Look::Changed,
         notes,

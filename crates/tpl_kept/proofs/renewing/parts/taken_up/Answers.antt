@@ -6,14 +6,11 @@ use Rattle.tpl_kept.proofs.renewing.parts.taken_up.Goals as goal
 pub returns-clause-first : goal.returns-clause-first
 returns-clause-first c = c.in_ok-first.ensures.ok ∙ ap start.Line c.into_inner-2.ensures
 
-pub returns-clause-places : goal.returns-clause-places
-returns-clause-places c = rw c.deref.ensures at c.in_ok-places.ensures
-
 pub returns-clause-inside_was : goal.returns-clause-inside_was
-returns-clause-inside_was c = rw c.deref-2.ensures at c.in_ok-inside.ensures.serve
+returns-clause-inside_was c = rw c.deref.ensures at c.in_ok-inside.ensures.serve
 
 pub returns-clause-later_was : goal.returns-clause-later_was
 returns-clause-later_was c = c.in_ok-later.ensures.was ∙ ap (λ z. kept z ∷ []) c.into_inner.ensures
 
 pub returns-clause-same : goal.returns-clause-same
-returns-clause-same c = rw c.deref-2.ensures at c.in_ok-inside.ensures.same
+returns-clause-same c = rw c.deref.ensures at c.in_ok-inside.ensures.same

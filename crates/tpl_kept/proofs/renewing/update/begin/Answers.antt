@@ -15,7 +15,7 @@ use Rattle.tpl_kept.specs.Turns.{IsSame, ServeInside, WasOpened, outcome_of}
 use Rattle.tpl_kept.proofs.Renewals.Apart.{was_apart}
 use Rattle.tpl_model.specs.KeptLines.Changes.{changed}
 use Rattle.tpl_kept.proofs.Renewals.Changes.{heard_told, made_told, stays_told, was_known, was_same, whole_told}
-use Rattle.tpl_kept.proofs.Renewals.Turns.{begins_line, begins_whole, opened_again, places_line, places_whole}
+use Rattle.tpl_kept.proofs.Renewals.Turns.{begins_line, begins_whole, opened_again}
 use Rattle.tpl_kept.proofs.renewing.update.begin.Goals as goal
 
 pub returns-then-unread-clause-begins : goal.returns-then-unread-clause-begins
@@ -23,10 +23,6 @@ returns-then-unread-clause-begins g c =
     begins_whole (block c.args.lines.now) c.args.links.now c.args.row.now (option_copied c.lent_row-here.result) c.args.before.now c.args.hearing.now.heard
     c.make.new.heard (box_value c.in_ok-all.all.first) c.in_ok-memo.memo c.made.result (was_of c.in_ok-all.all.inside) (was_of c.in_ok-all.all.later)
     c.in_ok-all.ensures.first c.lent_row-here.ensures.is c.in_ok-memo.ensures.made
-
-pub returns-then-unread-clause-places : goal.returns-then-unread-clause-places
-returns-then-unread-clause-places g c =
-    places_whole (box_value c.in_ok-all.all.first) c.in_ok-memo.memo c.made.result c.args.row.now c.in_ok-all.all.places.items c.in_ok-all.ensures.first c.in_ok-all.ensures.places
 
 pub returns-then-branch-clause-begins : goal.returns-then-branch-clause-begins
 returns-then-branch-clause-begins g c =
@@ -39,11 +35,6 @@ returns-then-branch-clause-begins g c =
     (was_of c.in_ok-all-2.all.later) c.in_ok-all-2.ensures.first refl
     (subst (λ z. Makes (lines_memo b) c.args.links.now c.args.row.now c.args.hearing.now.heard c.stays.new.hearing.heard (kept z)) (sym c.into_inner.ensures)
     (stayed b c.args.links.now c.args.row.now c.args.before.now c.args.hearing.now.heard c.stays.new.hearing.heard m (c.requires.was.made u) same))
-
-pub returns-then-branch-clause-places : goal.returns-then-branch-clause-places
-returns-then-branch-clause-places g c =
-    places_whole (box_value c.in_ok-all-2.all.first) c.into_inner.result c.stays-then-branch.result c.args.row.now c.in_ok-all-2.all.places.items c.in_ok-all-2.ensures.first
-    c.in_ok-all-2.ensures.places
 
 pub hear_first_again-requires-clause-was : goal.hear_first_again-requires-clause-was
 hear_first_again-requires-clause-was g c =
@@ -75,13 +66,6 @@ returns-clause-begins g c =
     (opened_again b c.args.links.now c.args.row.now c.args.before.now c.args.hearing.now.heard c.stays.new.hearing.heard c.hear_first_again.new.hearing.heard m old h is r
     ins lat (c.requires.was.made u) (c.in_ok-head.ensures u) changed o
     c.in_ok-heard.ensures.after.grows serves t.later_was)
-
-pub returns-clause-places : goal.returns-clause-places
-returns-clause-places g c =
-    let turn = c.in_ok-turn.turn in
-    let t = c.in_ok-turn.ensures in
-    places_line (box_value turn.first) (box_value c.in_ok-head-2.head) c.args.row.now (option_copied c.lent_row-here.result) turn.places.items t.first c.lent_row-here.ensures.is
-    t.places
 
 pub returns-clause-after : goal.returns-clause-after
 returns-clause-after g c = then_heard _ _ _ _ _ _ _ _ _ c.in_ok-stays.ensures.after c.in_ok-heard.ensures.after

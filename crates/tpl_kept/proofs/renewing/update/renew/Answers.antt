@@ -12,23 +12,23 @@ use Rattle.tpl_kept.proofs.renewing.update.renew.Goals as goal
 
 pub renew_each-requires-clause-rows : goal.renew_each-requires-clause-rows
 renew_each-requires-clause-rows g c =
-    subst AreRows (sym (c.from_ref.ensures.value ∙ ap (λ z. z ∷ []) c.in_ok-own.ensures)) (own_is c.args.row c.requires.place, tt)
+    subst AreRows (sym (ap (λ z. z ∷ []) c.in_ok-own.ensures)) (own_is c.args.row c.requires.place, tt)
 
 pub renew_each-requires-clause-was : goal.renew_each-requires-clause-was
 renew_each-requires-clause-was g c =
-    alone_was (block c.args.lines.now) c.args.links.now c.from_ref.result.now (option_copied c.args.row) c.args.before.now (kept c.args.memo)
-    (was_of c.in_ok-round.round) (c.from_ref.ensures.value ∙ ap (λ z. z ∷ []) c.in_ok-own.ensures) c.in_ok-round.ensures.was c.requires.was
+    alone_was (block c.args.lines.now) c.args.links.now (c.in_ok-own.own ∷ []) (option_copied c.args.row) c.args.before.now (kept c.args.memo)
+    (was_of c.in_ok-round.round) (ap (λ z. z ∷ []) c.in_ok-own.ensures) c.in_ok-round.ensures.was c.requires.was
 
 pub returns-clause-made : goal.returns-clause-made
 returns-clause-made g c =
-    alone_from false (block c.args.lines.now) c.args.links.now (option_copied c.args.row) c.from_ref.result.now c.args.hearing.now.heard c.renew_each.new.hearing.heard
+    alone_from false (block c.args.lines.now) c.args.links.now (option_copied c.args.row) (c.in_ok-own.own ∷ []) c.args.hearing.now.heard c.renew_each.new.hearing.heard
     (done_of c.in_ok-round.round) (done_of c.renew_each.new.round) (kept c.last.result)
-    (c.from_ref.ensures.value ∙ ap (λ z. z ∷ []) c.in_ok-own.ensures) c.in_ok-round.ensures.done c.in_ok-renew_each.ensures.made (c.last.ensures ∙ ap last_of c.finish.ensures)
+    (ap (λ z. z ∷ []) c.in_ok-own.ensures) c.in_ok-round.ensures.done c.in_ok-renew_each.ensures.made (c.last.ensures ∙ ap last_of c.finish.ensures)
 
 pub returns-clause-told : goal.returns-clause-told
 returns-clause-told g c =
-    one_told (block c.args.lines.now) c.args.links.now c.from_ref.result.now (option_copied c.args.row) c.args.before.now (was_of c.in_ok-round.round)
+    one_told (block c.args.lines.now) c.args.links.now (c.in_ok-own.own ∷ []) (option_copied c.args.row) c.args.before.now (was_of c.in_ok-round.round)
     (done_of c.in_ok-round.round) (done_of c.renew_each.new.round) (map changed c.new-changes.result.items)
     (map changed c.renew_each.new.changes.items) (kept c.last.result) (changed c.last_change.result)
-    (c.from_ref.ensures.value ∙ ap (λ z. z ∷ []) c.in_ok-own.ensures) c.in_ok-round.ensures.done
+    (ap (λ z. z ∷ []) c.in_ok-own.ensures) c.in_ok-round.ensures.done
     (ap (map changed) c.new-changes.ensures.items) c.in_ok-renew_each.ensures.told (c.last.ensures ∙ ap last_of c.finish.ensures) c.last_change.ensures
