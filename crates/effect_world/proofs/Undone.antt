@@ -12,7 +12,7 @@ use Rattle.effect_model.specs.Owners.{Undoing, cleans, emptied, ends, taken_out,
 use Rattle.effect_model.specs.Watchers.{signals_at_rest}
 use Rattle.effect_model.specs.Worlds as plain
 use Rattle.effect_model.specs.Worlds.{Environment, lives, tell, at_rest}
-use Rattle.effect_laws.specs.Frames.{IsOfSignals, ended_one, signal_part, with_part}
+use Rattle.effect_laws.specs.Frames.{IsOfSignals, ended_all, ended_one, signal_part, with_part}
 use Rattle.effect_laws.proofs.SharedFrames.{framed_set, framed_tell, undo_all_split, undo_split}
 use Rattle.effect_tables.specs.declared.effect.Effect.{Effect}
 use Rattle.effect_tables.specs.declared.tables.Tables.{Tables}
@@ -20,7 +20,7 @@ use Rattle.effect_tables.specs.declared.thing.Undoing.{Undoing as AnUndoing}
 use Rattle.effect_tables.specs.declared.thing.Undoing.TheVariants as undoing
 use Rattle.effect_tables.specs.Bodies.{undoing_of, undoings_of}
 use Rattle.effect_tables.specs.Placed.{effect_of, placed, tree_of}
-use Rattle.effect_tables.proofs.Shared.{left_off, listed_tree, right_off}
+use Rattle.effect_tables.proofs.Shared.{left_off, listed_tree, right_off, same_heard}
 use Rattle.effect_teardown.specs.Rows.{is_tabled}
 use Rattle.effect_teardown.specs.Trees.{AreFormed, OnEffects}
 use Rattle.effect_teardown.specs.Teardowns.{Takes, TakesBack, TakesOut}
@@ -39,7 +39,9 @@ use Rattle.sig_effect.specs.Wholes.{SignalStores}
 use Rattle.sig_effect.proofs.Shared.{tells_none}
 use Rattle.effect_world.specs.declared.world.World.{World}
 use Rattle.effect_world.specs.Signals.{Acts, IsNoted, Scene, Undoes, any_hosts, is_standing, scene}
-use Rattle.effect_world.specs.Stores.{Agrees, AreOwned, Does, IsSound}
+use Rattle.effect_tables.specs.declared.heard.Heard.{Heard}
+use Rattle.effect_world.specs.Answers.{Acted}
+use Rattle.effect_world.specs.Stores.{Agrees, AreOwned, Does, Hears, IsSound}
 use Rattle.effect_world.specs.Wholes.{stores_of, whole_of}
 
 -- ---- what is told
@@ -444,6 +446,22 @@ undoes_lent slacks old new answers k act p = record {
   worn = p.worn;
 }
 
+-- what is known of effects is no part of it
+pub undoes_heard : (slacks : List ℕ) (old : Scene) (new : World) (h : Heard) (asked : List HostPlace) (after : List Event) (first last : Hosts → Type 0) (k : ℕ)
+    (act : Environment → plain.World → plain.World) → Undoes slacks old (scene new asked after) first last k act →
+    Undoes slacks old (scene (record new { heard = h }) asked after) first last k act
+undoes_heard slacks old new h asked after first last k act p = record {
+  acts = p.acts;
+  agrees = p.agrees;
+  answers = p.answers;
+  most = p.most;
+  rules = p.rules;
+  tables = p.tables;
+  given = p.given;
+  made = p.made;
+  worn = p.worn;
+}
+
 -- one event was told, and nothing else done
 pub undoes_told : (slacks : List ℕ) (old : World) (asked : List HostPlace) (before after : List Event) (ev : Event) (t : plain.Event) (answers : Hosts → Type 0) (act : Environment → plain.World → plain.World) →
     after ≡ before ++ ev ∷ [] → ((env : Environment) → act env (wholes.whole_of asked (stores_of old)) ≡ tell t (wholes.whole_of asked (stores_of old))) → IsTold ev t → signals.Agrees asked (stores_of old) →
@@ -526,12 +544,39 @@ module _ (slacks : List ℕ) (old mid new : World) (asked later : List HostPlace
       taken_back hosts (signals.environment hosts slacks) asked later old mid new before after t (undoings_of us)
       (subst (λ (b : Tables). TakesBack old.tables b t (undoings_of us)) (sym done.tables) back) same (acts_now hosts sound)
 
-  pub agrees_now : (left : owning.Owned) → Takes old.tables mid.tables (undoings_of us) left → AreOwned old → Agrees later new
-  agrees_now left takes o = record {
+  pub agrees_now : (left : owning.Owned) → Takes old.tables mid.tables (undoings_of us) left → AreOwned old → Hears new → Agrees later new
+  agrees_now left takes o heard = record {
     signals = done.agrees;
+    heard = heard;
     owned = owned_after old new (undoings_of us) left (subst (λ (b : Tables). Takes old.tables b (undoings_of us) left) (sym done.tables) takes)
         (done.given ∙ ap (λ (s : SignalStores). s.graph.given) same) o;
   }
+
+-- where nothing is taken back, all stays as it is but for the store
+pub back_none : (slacks : List ℕ) (old : World) (u : Tables) (asked : List HostPlace) (events : List Event) (answers : Hosts → Type 0) (t : owning.Thing) (us : List AnUndoing) →
+    us ≡ [] → TakesBack old.tables u t (undoings_of us) → Agrees asked old →
+    Acted slacks (scene old asked events) (scene (record old { tables = u }) asked events) answers answers 0 (λ env. take_back env t)
+back_none slacks old u asked events answers t us none back a =
+    let mid : World = record old { tables = u } in
+    let done : Undoes slacks (scene mid asked events) (scene mid asked events) answers answers 0 (λ env. undo_all env (undoings_of us)) =
+    subst (λ vs. Undoes slacks (scene mid asked events) (scene mid asked events) answers answers 0 (λ env. undo_all env (undoings_of vs))) (sym none)
+    (undoes_none slacks (scene mid asked events) answers a.signals) in
+    let same : map effect_of u.effects.items ≡ map effect_of old.tables.effects.items =
+    ap (λ (w : plain.World). w.effects) (back.takes.does (wholes.whole_of asked (stores_of old)))
+    ∙ ap (λ vs. (ended_all (undoings_of vs) (record (placed old.tables (wholes.whole_of asked (stores_of old))) { owned = emptied t (tree_of old.tables) })).effects) none in
+    let made = back.takes.made in
+    record {
+      does = back_does slacks old mid mid asked asked events events answers answers 0 t us us refl refl done back;
+      agrees = agrees_now slacks old mid mid asked asked events events answers answers 0 t us us refl refl done _ back.takes a.owned
+          (same_heard old.graph.state.signals old.graph.state.signals old.heard old.heard (map effect_of old.tables.effects.items) (map effect_of u.effects.items) refl refl same a.heard);
+      answers = λ hosts h. h;
+      most = omega arith;
+      rules = λ count h. h;
+      given = refl;
+      made = refl;
+      worn = omega (arith, made);
+      told = omega arith;
+    }
 
 -- all steps
 pub undoes_all : (slacks : List ℕ) (old new : Scene) (first last : Hosts → Type 0) (us : List AnUndoing) (i : ℕ) → length us ≤ i → i ≤ length us →

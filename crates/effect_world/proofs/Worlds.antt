@@ -30,7 +30,7 @@ use Rattle.sig_effect.specs.Wholes as wholes
 use Rattle.sig_effect.specs.Wholes.{SignalStores}
 use Rattle.sig_effect.proofs.Shared.{tells_none}
 use Rattle.effect_world.specs.declared.world.World.{World}
-use Rattle.effect_world.specs.Stores.{AreOwned, Does, IsSound}
+use Rattle.effect_world.specs.Stores.{AreOwned, Does, Hears, IsSound}
 use Rattle.sig_effect.specs.Events.{AreNamed}
 use Rattle.effect_world.specs.Answers.{Changed}
 use Rattle.effect_world.specs.Signals.{Acts}
@@ -78,14 +78,14 @@ pub changed_whole : (slacks : List ℕ) (old new : World) (before after : List E
     ((count : ℕ) → signals.AreRuled count old.graph.state.signals → signals.AreRuled count new.graph.state.signals) →
     (AreNamed old.graph old.watchers.made before → AreNamed new.graph new.watchers.made after) →
     new.tables ≡ old.tables → new.graph.given ≡ old.graph.given → new.watchers.made ≡ old.watchers.made → new.graph.state.worn ≤ old.graph.state.worn + steps →
-    length before ≤ length after → Changed slacks old new before after steps act
-changed_whole slacks old new before after steps act acts agreed framed rules named same given made worn told = record {
+    length before ≤ length after → (Hears old → Hears new) → Changed slacks old new before after steps act
+changed_whole slacks old new before after steps act acts agreed framed rules named same given made worn told heard = record {
   acts = acts;
   agreed = agreed;
   does = λ hosts asked owned sound.
       let env : plain.Environment = signals.environment hosts slacks in
       signals_done hosts asked asked old new before after (act env) (acts hosts asked sound) (framed env) same owned.tables;
-  agrees = λ asked a. record { signals = agreed asked a.signals; owned = owned_still old new given same a.owned };
+  agrees = λ asked a. record { signals = agreed asked a.signals; owned = owned_still old new given same a.owned; heard = heard a.heard };
   rules = rules;
   named = named;
   given = given;
@@ -100,7 +100,7 @@ pub changed_nothing : (slacks : List ℕ) (old new : World) (events : List Event
     ((env : plain.Environment) → IsOfSignals (act env)) → Changed slacks old new events events steps act
 changed_nothing slacks old new events steps act is acts framed =
     subst (λ (w : World). Changed slacks old w events events steps act) (sym is)
-    (changed_whole slacks old old events events steps act acts (λ asked a. a) framed (λ count h. h) (λ h. h) refl refl refl (omega arith) (omega arith))
+    (changed_whole slacks old old events events steps act acts (λ asked a. a) framed (λ count h. h) (λ h. h) refl refl refl (omega arith) (omega arith) (λ h. h))
 
 -- ---- each act on signals
 

@@ -1,5 +1,5 @@
 -- How the stores of a world belong together, and what an act does to them.
-use Rattle.std.specs.Prelude.{◌≡◌, ℕ, ◌≤◌, false, List}
+use Rattle.std.specs.Prelude.{◌≡◌, ℕ, ◌≤◌, false, List, map}
 use Rattle.signal_model.specs.Recipes.{Hosts}
 use Rattle.effect_model.specs.Owners.{the_signal}
 use Rattle.effect_model.specs.Worlds as plain
@@ -7,7 +7,8 @@ use Rattle.sig_host.specs.Hosts.{HostPlace}
 use Rattle.sig_owner.specs.Trees.{has_thing, owned_of}
 use Rattle.effect_tables.specs.Consistency.{TablesAgree}
 use Rattle.effect_model.specs.Worlds.{at_rest}
-use Rattle.effect_tables.specs.Placed.{tree_of}
+use Rattle.effect_tables.specs.Placed.{effect_of, tree_of}
+use Rattle.effect_tables.specs.Heard.{AreHeard}
 use Rattle.effect_teardown.specs.Trees.{AreFormed}
 use Rattle.sig_effect.specs.Stores as below
 use Rattle.sig_effect.specs.declared.events.Event.{Event}
@@ -21,10 +22,15 @@ pub record AreOwned (w : World) : Type 0 where
   pub formed : AreFormed (tree_of w.tables)
   pub fresh : (n : ℕ) → w.graph.given ≤ n → has_thing (the_signal n) (owned_of w.tables.store) ≡ false
 
--- the stores of signals and watchers belong together, and so do the tables
+-- what is known of effects that need no look is right
+abbrev pub Hears : World → Type 0
+Hears w = AreHeard w.graph.state.signals w.heard (map effect_of w.tables.effects.items)
+
+-- the stores of signals and watchers belong together, so do the tables, and what is known of effects is right
 pub record Agrees (asked : List HostPlace) (w : World) : Type 0 where
   pub signals : below.Agrees asked (stores_of w)
   pub owned : AreOwned w
+  pub heard : Hears w
 
 -- for these meanings of host formulas what is kept of the signals is sound
 abbrev pub IsSound : Hosts → List HostPlace → World → Type 0

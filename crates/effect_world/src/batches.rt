@@ -52,6 +52,7 @@ impl World {
         let _made = self.graph.made();
         match set_in(batch, &mut self.graph, rules, id, value) {
             Ok(SetDone::Accepted) => {
+                self.heard.wake(id);
                 tell_change(events, id, How::Set)?;
                 Ok(SetDone::Accepted)
             }
@@ -95,6 +96,7 @@ impl World {
     fn notify_of_all(&mut self, cells: &[NodeId], events: &mut Vec<Event>) -> Result<(), NoMemory>
         ensures graph { self.new.graph ≡ self.old.graph }
         ensures tables { self.new.tables ≡ self.old.tables }
+        ensures heard { self.new.heard ≡ self.old.heard }
         ensures watchers { OnOk result (self.new.watchers
             ≡ with_each (waiting_if (is_notified_by_any self.old.graph.state.signals self.old.graph.state.memos cells.now)) self.old.watchers) }
         ensures notices { OnOk result (AreNotices
@@ -125,6 +127,7 @@ impl World {
         let mut cells = Vec::with_capacity(*events.allocator(), batch.len())?;
         batch.abort(&mut self.graph, &mut cells);
         tell_values(events, &cells)?;
+        self.heard.forget();
         Ok(())
     }
 }

@@ -48,6 +48,7 @@ impl World {
         let mut told = Vec::with_capacity(*events.allocator(), self.watchers.live())?;
         match set(&mut self.graph, rules, id, value) {
             Ok(SetDone::Accepted) => {
+                self.heard.wake(id);
                 self.watchers.tell(&self.graph, id, &mut told);
                 tell_change(events, id, How::Set)?;
                 tell_notified(events, &told)?;
@@ -91,6 +92,7 @@ impl World {
         let left = self.graph.rewire(id, recipe, slots)?;
         tell_change(events, id, How::Rewire)?;
         drop_left(shelf, left, events)?;
+        self.heard.forget();
         Ok(())
     }
 }

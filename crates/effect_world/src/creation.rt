@@ -64,7 +64,10 @@ impl World {
         }
         let id = self.graph.add_cell(value, rule)?;
         match self.tables.adopt_signal(id, inside) {
-            Ok(()) => Ok(id),
+            Ok(()) => {
+                self.heard.forget();
+                Ok(id)
+            }
             Err(_) => Err(EffectFault::NoMemory),
         }
     }
@@ -102,7 +105,10 @@ impl World {
         }
         let id = self.graph.add_computed(recipe, slots)?;
         match self.tables.adopt_signal(id, inside) {
-            Ok(()) => Ok(id),
+            Ok(()) => {
+                self.heard.forget();
+                Ok(id)
+            }
             Err(_) => Err(EffectFault::NoMemory),
         }
     }
@@ -125,6 +131,7 @@ impl World {
             (length (living 0 self.old.tables.owners.items) < MOST_OWNERS) (MOST_OWNERS ≤ length (living 0 self.old.tables.owners.items)) (self.new ≡ self.old) }
     {
         let id = self.tables.make_owner(inside)?;
+        self.heard.forget();
         Ok(id)
     }
 
@@ -153,6 +160,7 @@ impl World {
         ensures refuses { RefusesThing result (is_open (living 0 self.old.tables.owners.items) inside) (Unit {0}) ⊥ (self.new ≡ self.old) }
     {
         let id = self.tables.make_effect(alloc, script, inside)?;
+        self.heard.forget();
         Ok(id)
     }
 
@@ -175,6 +183,7 @@ impl World {
             (length self.old.tables.pages.items < MOST_PAGES) (MOST_PAGES ≤ length self.old.tables.pages.items) (self.new ≡ self.old) }
     {
         let id = self.tables.make_page(inside)?;
+        self.heard.forget();
         Ok(id)
     }
 }

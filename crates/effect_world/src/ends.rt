@@ -64,6 +64,7 @@ impl World {
             Ok(undoings) => {
                 let _count = undoings.len();
                 self.undo_all(shelf, rules, &undoings, events)?;
+                self.heard.forget();
                 Ok(())
             }
             Err(OwnFault::Gone) => Err(EffectFault::Gone),
@@ -97,8 +98,12 @@ impl World {
     {
         match effect_teardown::take_back(&mut self.tables, id) {
             Ok(undoings) => {
+                if undoings.is_empty() {
+                    return Ok(());
+                }
                 let _count = undoings.len();
                 self.undo_all(shelf, rules, &undoings, events)?;
+                self.heard.forget();
                 Ok(())
             }
             Err(OwnFault::Gone) => Err(EffectFault::Gone),

@@ -15,6 +15,7 @@ ghost use Rattle.sig_effect.specs.Stores.{AreRuled};
 ghost use Rattle.sig_effect.specs.Events.{AreNamed};
 ghost use Rattle.sig_effect.specs.declared.events.Event.TheVariants as event;
 ghost use Rattle.effect_world.specs.Signals.{any_hosts, scene, IsNoted, Undoes};
+ghost use Rattle.effect_world.specs.Stores.{Agrees};
 ghost use Rattle.effect_world.specs.Wholes.{stores_of};
 
 use crate::world::World;
@@ -75,6 +76,7 @@ impl World {
             (scene self.old asked events.old.items) (scene self.new asked events.new.items) any_hosts any_hosts 1
             (λ env. set_cell env id value)) }
         ensures told { OnOk result (length events.old.items ≤ length events.new.items) }
+        ensures agrees { (asked : List HostPlace) → Agrees asked self.old → OnOk result (Agrees asked self.new) }
     {
         match self.graph.standing(id) {
             Standing::Gone => {
@@ -105,6 +107,7 @@ impl World {
             (scene self.old asked events.old.items) (scene self.new asked events.new.items) any_hosts any_hosts 1
             (λ env. set_cell env id value)) }
         ensures told { OnOk result (length events.old.items ≤ length events.new.items) }
+        ensures agrees { (asked : List HostPlace) → Agrees asked self.old → OnOk result (Agrees asked self.new) }
     {
         match self.change_cell(rules, id, value, events) {
             Ok(_) => Ok(()),

@@ -9,19 +9,20 @@ ghost use Rattle.effect_world.specs.Stores.{Agrees, IsSound};
 ghost use Rattle.effect_world.specs.Costs.{weight};
 ghost use Rattle.effect_world.specs.Wholes.{whole_of};
 
-use effect_tables::Tables;
+use effect_tables::{Heard, Tables};
 use sig_base::NoMemory;
 use sig_host::{Lent, Shelf};
 use sig_nodes::Graph;
 use sig_watcher::Watchers;
 use std::alloc::Global;
 
-/// Signals and who watches them, and owners, effects and pages. Host formulas and equality rules stay with the caller, who hands in those
-/// that a call needs.
+/// Signals and who watches them, and owners, effects and pages; and which effects need no look. Host formulas and equality rules stay with
+/// the caller, who hands in those that a call needs.
 pub struct World {
     pub graph: Graph,
     pub watchers: Watchers,
     pub tables: Tables,
+    pub heard: Heard,
 }
 
 impl Drop for World {
@@ -30,6 +31,7 @@ impl Drop for World {
             graph: _,
             watchers: _,
             tables: _,
+            heard: _,
         } = self;
     }
 }
@@ -51,10 +53,12 @@ impl World {
         let graph = Graph::new(alloc)?;
         let watchers = Watchers::new(alloc)?;
         let tables = Tables::new(alloc)?;
+        let heard = Heard::new(alloc);
         Ok(World {
             graph,
             watchers,
             tables,
+            heard,
         })
     }
 

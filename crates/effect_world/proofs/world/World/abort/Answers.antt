@@ -1,4 +1,4 @@
-use Rattle.std.proofs.Common.{refl, ap, arith}
+use Rattle.std.proofs.Common.{refl, ap, arith, map}
 use Rattle.sig_nodes.specs.States.{State}
 use Rattle.effect_world.specs.declared.world.World.{World}
 use Rattle.sig_effect.proofs.Shared.{abort_agrees, abort_does, abort_named, abort_ruled, abort_told, abort_worn}
@@ -7,12 +7,14 @@ use Rattle.effect_world.specs.Wholes.{stores_of}
 use Rattle.effect_world.proofs.Batched.{framed_abort}
 use Rattle.effect_world.proofs.Told.{more_told}
 use Rattle.effect_world.proofs.Worlds.{changed_whole}
+use Rattle.effect_tables.specs.Placed.{effect_of}
+use Rattle.effect_tables.proofs.Shared.{none_heard}
 use Rattle.effect_world.proofs.world.World.abort.Goals as goal
 
 pub returns-clause-changed : goal.returns-clause-changed
 returns-clause-changed c =
     let old : World = c.args.self.now in
-    let new : World = record { graph = c.abort.new.graph; watchers = old.watchers; tables = old.tables } in
+    let new : World = record { graph = c.abort.new.graph; watchers = old.watchers; tables = old.tables; heard = c.forget.new.self } in
     let b = c.abort.ensures.graph in
     let told = abort_told _ _ _ c.in_ok-cells.cells.items c.abort.new.out.items c.deref.result.now c.in_ok-cells.ensures.items c.abort.ensures.items c.deref.ensures.value c.in_ok-tell_values.ensures in
     changed_whole _ old new _ _ _ (λ env. abort c.args.batch.changed)
@@ -24,3 +26,4 @@ returns-clause-changed c =
     refl b.given refl
     (let worn = abort_worn c.args.batch.changed old.graph.state in let same = ap (λ (s : State). s.worn) b.state in omega (arith, worn, same))
     (more_told _ _ _ told)
+    (λ h. none_heard c.abort.new.graph.state.signals c.forget.new.self (map effect_of old.tables.effects.items) c.forget.ensures)

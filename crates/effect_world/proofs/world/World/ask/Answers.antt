@@ -8,13 +8,14 @@ use Rattle.sig_effect.proofs.Shared.{agrees_settled, ask_does}
 use Rattle.sig_effect.proofs.Shared.{none_given, runs_behind}
 use Rattle.effect_world.specs.Wholes.{stores_of}
 use Rattle.effect_world.proofs.Worlds.{owned_still, settle_done}
+use Rattle.effect_tables.proofs.Shared.{same_heard}
 use Rattle.effect_world.proofs.world.World.ask.Goals as goal
 
 pub returns-clause-settled : goal.returns-clause-settled
 returns-clause-settled g c =
     let old : World = c.args.self.now in
     let e = c.in_ok-outcome.ensures.settles in
-    let new : World = record { graph = c.settle.new.graph; watchers = old.watchers; tables = old.tables } in
+    let new : World = record { graph = c.settle.new.graph; watchers = old.watchers; tables = old.tables; heard = old.heard } in
     let m = e.most in
     let w = e.worn in
     let none = ap (λ (ns : List RunNote). length (map note_of ns)) c.new-notes.ensures.items in
@@ -29,6 +30,7 @@ returns-clause-settled g c =
       agrees = record {
         signals = agrees_settled _ _ (stores_of old) (stores_of new) e.signals e.idle e.there refl c.requires.agrees.signals;
         owned = owned_still old new e.given refl c.requires.agrees.owned;
+        heard = same_heard old.graph.state.signals c.settle.new.graph.state.signals old.heard old.heard _ _ e.signals refl refl c.requires.agrees.heard;
       };
       answers = e.answers;
       most = omega (arith, m, none, noted, told, runs);

@@ -22,6 +22,8 @@ use Rattle.effect_laws.proofs.SharedFrames.{framed_set}
 use Rattle.effect_world.specs.Wholes.{stores_of}
 use Rattle.effect_world.proofs.Told.{notices_told, one_told}
 use Rattle.effect_world.proofs.Worlds.{changed_whole, changed_nothing}
+use Rattle.effect_tables.specs.Placed.{effect_of}
+use Rattle.effect_tables.proofs.Shared.{set_heard}
 use Rattle.effect_world.proofs.world.World.change_cell.Goals as goal
 
 pub set-requires-clause-kind : goal.set-requires-clause-kind
@@ -37,7 +39,7 @@ returns-in-Ok-Accepted-clause-changed g c =
     let accepted : c.set.result ≡ Ok Accepted = c.in-Ok-Accepted.is ∙ ap (λ (x : SetDone). Ok x) c.in-Ok-Accepted.field-0-is in
     let after = e.accepted accepted in
     let made = ap (λ (t : Table). t.made) c.tell.ensures.after in
-    let new : World = record { graph = c.set.new.graph; watchers = c.tell.new.self; tables = old.tables } in
+    let new : World = record { graph = c.set.new.graph; watchers = c.tell.new.self; tables = old.tables; heard = c.wake.new.self } in
     changed_whole _ old new _ _ 1 (λ env. set_cell env c.args.id c.args.value)
     (λ hosts asked sound. set_accepted hosts _ asked (stores_of old) (stores_of new) _ _ c.args.id c.args.value c.set.result accepted c.requires.can.kind e.gone e.same after c.tell.ensures.after
     c.in_ok-told.told.items c.tell.new.told.items c.deref.result.now c.in_ok-told.ensures.items c.tell.ensures.told c.deref.ensures.value c.tell_change.new.events.items
@@ -56,14 +58,16 @@ returns-in-Ok-Accepted-clause-changed g c =
     c.in_ok-tell_change-in-Ok-Accepted.ensures (named_still old.graph c.set.new.graph old.watchers.made c.tell.new.self.made _ after.given made named)))
     refl after.given made (let w = ap (λ (s : State). s.worn) after.state in omega (arith, w))
     (let m = one_told _ _ _ c.in_ok-tell_change-in-Ok-Accepted.ensures in let n = notices_told c.deref.result.now c.tell_change.new.events.items c.tell_notified.new.events.items c.in_ok-tell_notified-in-Ok-Accepted.ensures in omega (arith, m, n))
+    (set_heard c.args.id c.args.value old.graph.state.signals c.set.new.graph.state.signals old.heard c.wake.new.self (map effect_of old.tables.effects.items)
+    (ap (λ (s : State). s.signals) after.state) c.wake.ensures)
 
 pub returns-in-Ok-Same-clause-changed : goal.returns-in-Ok-Same-clause-changed
 returns-in-Ok-Same-clause-changed g c =
     let old : World = c.args.self.now in
     let e = c.set.ensures in
     let same : c.set.result ≡ Ok Same = c.in-Ok-Same.is ∙ ap (λ (x : SetDone). Ok x) c.in-Ok-Same.field-0-is in
-    let new : World = record { graph = c.set.new.graph; watchers = old.watchers; tables = old.tables } in
+    let new : World = record { graph = c.set.new.graph; watchers = old.watchers; tables = old.tables; heard = old.heard } in
     changed_nothing _ old new _ 1 (λ env. set_cell env c.args.id c.args.value)
-    (λ i. record { graph = e.kept (not_accepted c.set.result same) i; watchers = old.watchers; tables = old.tables })
+    (λ i. record { graph = e.kept (not_accepted c.set.result same) i; watchers = old.watchers; tables = old.tables; heard = old.heard })
     (λ hosts asked sound. same_does hosts _ asked (stores_of old) (stores_of old) _ _ c.args.id c.args.value (e.same.0 same) refl refl sound)
     (λ env. framed_set env c.args.id c.args.value)

@@ -8,6 +8,9 @@ use Rattle.sig_effect.specs.Stores.{environment}
 use Rattle.effect_world.specs.Wholes.{stores_of}
 use Rattle.effect_world.proofs.Batched.{framed_commit}
 use Rattle.effect_world.proofs.Worlds.{owned_still, signals_done}
+use Rattle.effect_tables.specs.Placed.{effect_of}
+use Rattle.effect_tables.specs.declared.tables.Tables.{Tables}
+use Rattle.effect_tables.proofs.Shared.{same_heard}
 use Rattle.effect_world.proofs.world.World.commit.Goals as goal
 
 pub returns-clause-does : goal.returns-clause-does
@@ -26,6 +29,8 @@ returns-clause-agrees g c = λ asked a.
       signals = commit_agrees asked (stores_of c.args.self.now) (stores_of c.notify_of_all.new.self)
           (is_notified_by_any c.args.self.now.graph.state.signals c.args.self.now.graph.state.memos c.deref.result.now) e.graph e.watchers a.signals;
       owned = owned_still c.args.self.now c.notify_of_all.new.self (ap (λ (g : Seen). g.given) e.graph) e.tables a.owned;
+      heard = same_heard c.args.self.now.graph.state.signals c.notify_of_all.new.self.graph.state.signals c.args.self.now.heard c.notify_of_all.new.self.heard _ _
+          (ap (λ (g : Seen). g.state.signals) e.graph) e.heard (ap (λ (t : Tables). map effect_of t.effects.items) e.tables) a.heard;
     }
 
 pub returns-clause-made : goal.returns-clause-made

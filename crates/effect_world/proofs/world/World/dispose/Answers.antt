@@ -6,7 +6,9 @@ use Rattle.effect_tables.specs.declared.tables.Tables.{Tables}
 use Rattle.effect_tables.specs.Bodies.{thing_of}
 use Rattle.effect_world.specs.declared.world.World.{World}
 use Rattle.effect_world.specs.Signals.{IsNoted}
-use Rattle.effect_world.proofs.Undone.{agrees_now, gone_standing, gone_tabled, lives_by, noted_steps, out_does, untouched}
+use Rattle.effect_world.proofs.Undone.{agrees_now, gone_standing, gone_tabled, lives_by, noted_steps, out_does, undoes_heard, untouched}
+use Rattle.effect_tables.specs.Placed.{effect_of}
+use Rattle.effect_tables.proofs.Shared.{none_heard}
 use Rattle.effect_world.proofs.world.World.dispose.Goals as goal
 
 pub returns-then-not-is_standing-clause-refuses : goal.returns-then-not-is_standing-clause-refuses
@@ -33,16 +35,18 @@ undo_all-requires-clause-agrees g c = c.requires.agrees.signals
 pub returns-in_ok-undo_all-in-Ok-clause-done : goal.returns-in_ok-undo_all-in-Ok-clause-done
 returns-in_ok-undo_all-in-Ok-clause-done g c =
     let old : World = c.args.self.now in
-    let mid : World = record { graph = old.graph; watchers = old.watchers; tables = c.take_out.new.tables } in
-    let d = c.in_ok-undo_all-in-Ok.ensures.done in
+    let mid : World = record { graph = old.graph; watchers = old.watchers; tables = c.take_out.new.tables; heard = old.heard } in
+    let new : World = record c.undo_all.new.self { heard = c.forget.new.self } in
+    let d = undoes_heard _ _ c.undo_all.new.self c.forget.new.self _ _ _ _ _ _ c.in_ok-undo_all-in-Ok.ensures.done in
     let takes = c.in-Ok.ensures.takes in
     let w = d.worn in
     let t = c.in_ok-undo_all-in-Ok.ensures.told in
     let m = ap (λ (b : Tables). b.effects_made) d.tables ∙ takes.takes.made in
     record {
-      does = out_does _ old mid c.undo_all.new.self _ _ _ _ _ _ _ (thing_of c.args.thing) c.in-Ok.undoings.items _ c.deref.ensures.value refl d takes
+      does = out_does _ old mid new _ _ _ _ _ _ _ (thing_of c.args.thing) c.in-Ok.undoings.items _ c.deref.ensures.value refl d takes
           (lives_by _ old (thing_of c.args.thing) (sym c.is_standing.ensures ∙ c.if-not-is_standing.false) c.in-Ok.ensures.there);
-      agrees = agrees_now _ old mid c.undo_all.new.self _ _ _ _ _ _ _ (thing_of c.args.thing) c.in-Ok.undoings.items _ c.deref.ensures.value refl d _ takes.takes c.requires.agrees.owned;
+      agrees = agrees_now _ old mid new _ _ _ _ _ _ _ (thing_of c.args.thing) c.in-Ok.undoings.items _ c.deref.ensures.value refl d _ takes.takes c.requires.agrees.owned
+          (none_heard new.graph.state.signals c.forget.new.self (map effect_of new.tables.effects.items) c.forget.ensures);
       answers = d.answers;
       most = d.most;
       rules = d.rules;
@@ -62,4 +66,4 @@ returns-in-Err-Gone-clause-refuses g c =
     let e : c.take_out.result ≡ Err own.Gone = c.in-Err-Gone.is ∙ ap Err c.in-Err-Gone.field-0-is in
     let same = untouched _ _ _ e c.take_out.ensures.err in
     let off = gone_tabled (map (λ p. record { there = is_some p.host; asks = p.count }) c.args.shelf.now.places.items) old (thing_of c.args.thing) (c.take_out.ensures.gone (subst (λ r. IsErrOf r own.Gone) (sym e) refl)) in
-    (tt, (λ h. (off, ((λ i. record { graph = old.graph; watchers = old.watchers; tables = same i }), refl, refl))), inl refl)
+    (tt, (λ h. (off, ((λ i. record { graph = old.graph; watchers = old.watchers; tables = same i; heard = old.heard }), refl, refl))), inl refl)

@@ -23,7 +23,7 @@ drop_left-requires-clause-there g c = λ place e. c.requires.agrees.there.each p
 
 pub returns-in_ok-tell_gone-in-Ok-clause-done : goal.returns-in_ok-tell_gone-in-Ok-clause-done
 returns-in_ok-tell_gone-in-Ok-clause-done g c = λ slacks.
-    let new : World = record { graph = c.dispose_node.new.self; watchers = c.forget.new.self; tables = c.args.self.now.tables } in
+    let new : World = record { graph = c.dispose_node.new.self; watchers = c.forget.new.self; tables = c.args.self.now.tables; heard = c.args.self.now.heard } in
     let there : is_there (standing c.args.self.now.graph.state.signals c.args.id) ≡ true = there_by _ _ c.in-Ok.ensures.gone (λ q. cc) in
     let b = c.in-Ok.ensures.after in
     let d = c.in_ok-drop_left-in-Ok.ensures in
@@ -50,8 +50,8 @@ returns-in_ok-tell_gone-in-Ok-clause-named g c = λ given all.
 
 pub returns-in_ok-tell_gone-in-Err-clause-done : goal.returns-in_ok-tell_gone-in-Err-clause-done
 returns-in_ok-tell_gone-in-Err-clause-done g c = λ slacks.
-    let new : World = record { graph = c.dispose_node.new.self; watchers = c.args.self.now.watchers; tables = c.args.self.now.tables } in
-    undoes_to slacks c.args.self.now new _ _ _ _ _ (λ i. record { graph = c.in-Err.ensures.err i; watchers = c.args.self.now.watchers; tables = c.args.self.now.tables })
+    let new : World = record { graph = c.dispose_node.new.self; watchers = c.args.self.now.watchers; tables = c.args.self.now.tables; heard = c.args.self.now.heard } in
+    undoes_to slacks c.args.self.now new _ _ _ _ _ (λ i. record { graph = c.in-Err.ensures.err i; watchers = c.args.self.now.watchers; tables = c.args.self.now.tables; heard = c.args.self.now.heard })
     (undoes_told slacks c.args.self.now _ _ _ (event.Gone (thing.Signal c.args.id)) (plain.gone (the_signal c.args.id)) _ (λ env. undo env (ends (the_signal c.args.id)))
     c.in_ok-tell_gone-in-Err.ensures
     (λ env. end_gone env c.args.id (wholes.whole_of _ (stores_of c.args.self.now)) (gone_there (standing c.args.self.now.graph.state.signals c.args.id) (c.in-Err.ensures.gone.0 refl)))

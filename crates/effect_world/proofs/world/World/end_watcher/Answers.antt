@@ -16,7 +16,7 @@ use Rattle.effect_world.proofs.world.World.end_watcher.Goals as goal
 
 pub returns-in_ok-tell_gone-in-Ok-clause-done : goal.returns-in_ok-tell_gone-in-Ok-clause-done
 returns-in_ok-tell_gone-in-Ok-clause-done c = λ slacks asked a.
-    let new : World = record { graph = c.args.self.now.graph; watchers = c.remove.new.self; tables = c.args.self.now.tables } in
+    let new : World = record { graph = c.args.self.now.graph; watchers = c.remove.new.self; tables = c.args.self.now.tables; heard = c.args.self.now.heard } in
     let removed = c.in-Ok.ensures.after in
     undoes_one slacks c.args.self.now new asked asked _ _ any_hosts any_hosts (λ env. undo env (ends (the_watcher c.args.id)))
     (λ hosts sound. remove_does hosts slacks asked (stores_of c.args.self.now) (stores_of new) _ _ c.args.id refl removed c.in_ok-tell_gone-in-Ok.ensures sound)
@@ -34,8 +34,8 @@ returns-in_ok-tell_gone-in-Ok-clause-named c = λ below all.
 
 pub returns-in_ok-tell_gone-in-Err-clause-done : goal.returns-in_ok-tell_gone-in-Err-clause-done
 returns-in_ok-tell_gone-in-Err-clause-done c = λ slacks asked a.
-    let new : World = record { graph = c.args.self.now.graph; watchers = c.remove.new.self; tables = c.args.self.now.tables } in
-    undoes_to slacks c.args.self.now new asked _ _ any_hosts _ (λ i. record { graph = c.args.self.now.graph; watchers = c.in-Err.ensures.err i; tables = c.args.self.now.tables })
+    let new : World = record { graph = c.args.self.now.graph; watchers = c.remove.new.self; tables = c.args.self.now.tables; heard = c.args.self.now.heard } in
+    undoes_to slacks c.args.self.now new asked _ _ any_hosts _ (λ i. record { graph = c.args.self.now.graph; watchers = c.in-Err.ensures.err i; tables = c.args.self.now.tables; heard = c.args.self.now.heard })
     (undoes_told slacks c.args.self.now asked _ _ (event.Gone (thing.Watcher c.args.id)) (plain.gone (the_watcher c.args.id)) any_hosts (λ env. undo env (ends (the_watcher c.args.id)))
     c.in_ok-tell_gone-in-Err.ensures
     (λ env. watcher_gone env c.args.id (wholes.whole_of asked (stores_of c.args.self.now)) (c.in-Err.ensures.gone.0 (ap (λ e. Err e) c.in-Err.ensures.fault))) refl a)

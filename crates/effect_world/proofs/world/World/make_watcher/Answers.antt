@@ -7,7 +7,7 @@ use Rattle.effect_world.proofs.world.World.make_watcher.Goals as goal
 
 pub returns-clause-does : goal.returns-clause-does
 returns-clause-does c = λ hosts asked sound.
-    let new : World = record { graph = c.args.self.now.graph; watchers = c.add.new.self; tables = c.args.self.now.tables } in
+    let new : World = record { graph = c.args.self.now.graph; watchers = c.add.new.self; tables = c.args.self.now.tables; heard = c.args.self.now.heard } in
     watcher_done hosts asked c.args.self.now new c.args.tries refl c.in_ok-id.ensures.after refl c.requires.owned.tables sound
 
 pub returns-clause-agrees : goal.returns-clause-agrees
@@ -20,5 +20,6 @@ returns-clause-agrees c = λ asked a. record {
     watched = subst (λ (t : Table). AreWatched c.args.self.now.graph.state.signals t.watchers) (sym c.in_ok-id.ensures.after)
         (watched_more c.args.self.now.graph.state.signals c.args.self.now.watchers.watchers _ refl a.signals.watched);
   };
-  owned = owned_still c.args.self.now (record { graph = c.args.self.now.graph; watchers = c.add.new.self; tables = c.args.self.now.tables }) refl refl a.owned;
+  owned = owned_still c.args.self.now (record { graph = c.args.self.now.graph; watchers = c.add.new.self; tables = c.args.self.now.tables; heard = c.args.self.now.heard }) refl refl a.owned;
+  heard = a.heard;
 }

@@ -1,4 +1,4 @@
-use Rattle.std.proofs.Common.{[], ap, subst, sym, ◌∙◌, arith}
+use Rattle.std.proofs.Common.{[], ap, subst, sym, ◌∙◌, arith, map}
 use Rattle.effect_model.specs.Owners.{the_owner, the_signal}
 use Rattle.effect_model.specs.Worlds as plain
 use Rattle.effect_tables.specs.Placed.{numbering, untouched}
@@ -10,6 +10,8 @@ use Rattle.sig_owner.specs.Trees.{has_thing}
 use Rattle.sig_effect.specs.Stores.{AreRuled}
 use Rattle.sig_effect.proofs.Shared.{new_agrees, new_sound, new_whole}
 use Rattle.effect_world.proofs.Worlds.{none_ruled}
+use Rattle.effect_tables.specs.Placed.{effect_of}
+use Rattle.effect_tables.proofs.Shared.{none_heard}
 use Rattle.effect_world.proofs.world.World.new.Goals as goal
 
 pub returns-clause-whole : goal.returns-clause-whole
@@ -28,6 +30,7 @@ returns-clause-agrees c = λ asked. record {
     formed = record { formed = subst (IsFormed (the_owner 0)) (sym (ap (renamed (numbering c.in_ok-tables.tables)) c.in_ok-tables.ensures.bare)) tt };
     fresh = λ n l. ap (has_thing (the_signal n)) c.in_ok-tables.ensures.bare;
   };
+  heard = none_heard c.in_ok-graph.graph.state.signals c.new-heard.result (map effect_of c.in_ok-tables.tables.effects.items) c.new-heard.ensures;
 }
 
 pub returns-clause-light : goal.returns-clause-light

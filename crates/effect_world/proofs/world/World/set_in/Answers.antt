@@ -1,4 +1,4 @@
-use Rattle.std.proofs.Common.{◌≡◌, ◌+◌, ◌∙◌, length, Ok, refl, sym, ap, subst, arith}
+use Rattle.std.proofs.Common.{◌≡◌, ◌+◌, ◌∙◌, length, Ok, refl, sym, ap, subst, arith, map}
 use Rattle.signal_model.specs.Signals.{Signals, Stands, standing}
 use Rattle.sig_nodes.specs.States.{State}
 use Rattle.sig_state.specs.declared.sets.SetDone.{SetDone}
@@ -17,6 +17,8 @@ use Rattle.effect_world.specs.Wholes.{stores_of}
 use Rattle.effect_world.proofs.Batched.{framed_quietly}
 use Rattle.effect_world.proofs.Told.{one_told}
 use Rattle.effect_world.proofs.Worlds.{changed_whole, changed_nothing}
+use Rattle.effect_tables.specs.Placed.{effect_of}
+use Rattle.effect_tables.proofs.Shared.{set_heard}
 use Rattle.effect_world.proofs.world.World.set_in.Goals as goal
 
 pub set_in-requires-clause-kind : goal.set_in-requires-clause-kind
@@ -31,7 +33,7 @@ returns-in_ok-tell_change-in-Ok-Accepted-clause-changed g c =
     let e = c.set_in.ensures in
     let accepted : c.set_in.result ≡ Ok Accepted = c.in-Ok-Accepted.is ∙ ap (λ (x : SetDone). Ok x) c.in-Ok-Accepted.field-0-is in
     let after = e.accepted accepted in
-    let new : World = record { graph = c.set_in.new.graph; watchers = old.watchers; tables = old.tables } in
+    let new : World = record { graph = c.set_in.new.graph; watchers = old.watchers; tables = old.tables; heard = c.wake.new.self } in
     let over = accepted_over _ _ c.args.value c.set_in.result accepted c.requires.can.kind e.gone e.same in
     changed_whole _ old new _ _ 1 (λ env. set_quietly env c.args.id c.args.value)
     (λ hosts asked sound. quiet_does hosts _ asked (stores_of old) (stores_of new) _ _ c.args.id c.args.value over.cell over.stands over.off after refl
@@ -44,6 +46,8 @@ returns-in_ok-tell_change-in-Ok-Accepted-clause-changed g c =
     c.in_ok-tell_change-in-Ok-Accepted.ensures (named_still old.graph c.set_in.new.graph old.watchers.made old.watchers.made _ after.given refl named))
     refl after.given refl (let w = ap (λ (s : State). s.worn) after.state in omega (arith, w))
     (let m = one_told _ _ _ c.in_ok-tell_change-in-Ok-Accepted.ensures in omega (arith, m))
+    (set_heard c.args.id c.args.value old.graph.state.signals c.set_in.new.graph.state.signals old.heard c.wake.new.self (map effect_of old.tables.effects.items)
+    (ap (λ (s : State). s.signals) after.state) c.wake.ensures)
 
 pub returns-in_ok-tell_change-in-Ok-Accepted-clause-collects : goal.returns-in_ok-tell_change-in-Ok-Accepted-clause-collects
 returns-in_ok-tell_change-in-Ok-Accepted-clause-collects g c =
@@ -63,8 +67,8 @@ returns-in-Ok-Same-clause-changed g c =
     let e = c.set_in.ensures in
     let same : c.set_in.result ≡ Ok Same = c.in-Ok-Same.is ∙ ap (λ (x : SetDone). Ok x) c.in-Ok-Same.field-0-is in
     let kept = e.kept (not_accepted c.set_in.result same) in
-    let new : World = record { graph = c.set_in.new.graph; watchers = old.watchers; tables = old.tables } in
-    changed_nothing _ old new _ 1 (λ env. set_quietly env c.args.id c.args.value) (λ i. record { graph = kept.0 i; watchers = old.watchers; tables = old.tables })
+    let new : World = record { graph = c.set_in.new.graph; watchers = old.watchers; tables = old.tables; heard = old.heard } in
+    changed_nothing _ old new _ 1 (λ env. set_quietly env c.args.id c.args.value) (λ i. record { graph = kept.0 i; watchers = old.watchers; tables = old.tables; heard = old.heard })
     (λ hosts asked sound. quiet_nothing hosts _ asked (stores_of old) _ c.args.id c.args.value (e.same.0 same) sound)
     (λ env. framed_quietly env c.args.id c.args.value)
 

@@ -35,3 +35,12 @@ returns-in-Computing-clause-done g c = λ asked a.
 
 pub returns-in_ok-push-in-Gone-clause-told : goal.returns-in_ok-push-in-Gone-clause-told
 returns-in_ok-push-in-Gone-clause-told g c = let m = one_told _ _ _ c.in_ok-push-in-Gone.ensures.items in omega (arith, m)
+
+pub returns-in_ok-push-in-Gone-clause-agrees : goal.returns-in_ok-push-in-Gone-clause-agrees
+returns-in_ok-push-in-Gone-clause-agrees g c = λ asked a. a
+
+pub returns-in-Computed-clause-agrees : goal.returns-in-Computed-clause-agrees
+returns-in-Computed-clause-agrees g c = λ asked a. a
+
+pub returns-in-Computing-clause-agrees : goal.returns-in-Computing-clause-agrees
+returns-in-Computing-clause-agrees g c = λ asked a. a

@@ -14,3 +14,6 @@ returns-in-Ok-clause-done g c = λ asked a.
     let e = c.in-Ok.ensures.changed in
     undoes_one _ c.args.self.now c.change_cell.new.self asked asked _ _ any_hosts any_hosts (λ env. set_cell env c.args.id c.args.value)
     (λ hosts sound. e.acts hosts asked sound) (e.agreed asked a) (λ hosts h. h) (omega arith) e.rules c.in-Ok.ensures.tables (record { given = e.given; made = e.made; worn = e.worn })
+
+pub returns-in-Ok-clause-agrees : goal.returns-in-Ok-clause-agrees
+returns-in-Ok-clause-agrees g c = λ asked a. c.in-Ok.ensures.changed.agrees asked a

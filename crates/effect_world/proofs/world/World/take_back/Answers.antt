@@ -1,12 +1,16 @@
 use Rattle.std.proofs.Common.{◌≡◌, Err, inl, map, is_some, arith, ap, sym, refl, subst, length, ◌∙◌}
 use Rattle.std.specs.Prelude.{IsErrOf}
 use Rattle.std.specs.List.{AllByRecursion}
+use Rattle.std.proofs.lemmas.Bool.{eqb-true}
+use Rattle.std.proofs.lemmas.List.{nil_from_length}
 use Rattle.effect_model.specs.Owners.{the_effect}
 use Rattle.sig_owner.specs.declared.errors.OwnFault.TheVariants as own
 use Rattle.effect_tables.specs.declared.tables.Tables.{Tables}
 use Rattle.effect_world.specs.declared.world.World.{World}
 use Rattle.effect_world.specs.Signals.{IsNoted}
-use Rattle.effect_world.proofs.Undone.{agrees_now, back_does, gone_tabled, lives_by, noted_steps, untouched}
+use Rattle.effect_world.proofs.Undone.{agrees_now, back_does, back_none, gone_tabled, lives_by, noted_steps, undoes_heard, untouched}
+use Rattle.effect_tables.specs.Placed.{effect_of}
+use Rattle.effect_tables.proofs.Shared.{none_heard}
 use Rattle.effect_world.proofs.world.World.take_back.Goals as goal
 
 pub take_back-requires-clause-holds : goal.take_back-requires-clause-holds
@@ -26,18 +30,30 @@ undo_all-requires-clause-worn g c =
 pub undo_all-requires-clause-agrees : goal.undo_all-requires-clause-agrees
 undo_all-requires-clause-agrees g c = c.requires.agrees.signals
 
+pub returns-then-is_empty-clause-done : goal.returns-then-is_empty-clause-done
+returns-then-is_empty-clause-done g c =
+    let none = eqb-true _ 0 (sym c.if-is_empty.ensures) in
+    back_none _ c.args.self.now c.take_back.new.tables _ _ _ (the_effect c.args.id) c.in-Ok.undoings.items (nil_from_length c.in-Ok.undoings.items (omega (arith, none)))
+    c.in-Ok.ensures.takes c.requires.agrees
+
+pub returns-then-is_empty-clause-refuses : goal.returns-then-is_empty-clause-refuses
+returns-then-is_empty-clause-refuses g c =
+    (lives_by (map (λ p. record { there = is_some p.host; asks = p.count }) c.args.shelf.now.places.items) c.args.self.now (the_effect c.args.id) refl c.in-Ok.ensures.there, (λ h. absurd cc), tt)
+
 pub returns-in_ok-undo_all-in-Ok-clause-done : goal.returns-in_ok-undo_all-in-Ok-clause-done
 returns-in_ok-undo_all-in-Ok-clause-done g c =
     let old : World = c.args.self.now in
-    let mid : World = record { graph = old.graph; watchers = old.watchers; tables = c.take_back.new.tables } in
-    let d = c.in_ok-undo_all-in-Ok.ensures.done in
+    let mid : World = record { graph = old.graph; watchers = old.watchers; tables = c.take_back.new.tables; heard = old.heard } in
+    let new : World = record c.undo_all.new.self { heard = c.forget.new.self } in
+    let d = undoes_heard _ _ c.undo_all.new.self c.forget.new.self _ _ _ _ _ _ c.in_ok-undo_all-in-Ok.ensures.done in
     let takes = c.in-Ok.ensures.takes in
     let w = d.worn in
     let t = c.in_ok-undo_all-in-Ok.ensures.told in
     let m = ap (λ (b : Tables). b.effects_made) d.tables ∙ takes.takes.made in
     record {
-      does = back_does _ old mid c.undo_all.new.self _ _ _ _ _ _ _ (the_effect c.args.id) c.in-Ok.undoings.items _ c.deref.ensures.value refl d takes;
-      agrees = agrees_now _ old mid c.undo_all.new.self _ _ _ _ _ _ _ (the_effect c.args.id) c.in-Ok.undoings.items _ c.deref.ensures.value refl d _ takes.takes c.requires.agrees.owned;
+      does = back_does _ old mid new _ _ _ _ _ _ _ (the_effect c.args.id) c.in-Ok.undoings.items _ c.deref.ensures.value refl d takes;
+      agrees = agrees_now _ old mid new _ _ _ _ _ _ _ (the_effect c.args.id) c.in-Ok.undoings.items _ c.deref.ensures.value refl d _ takes.takes c.requires.agrees.owned
+          (none_heard new.graph.state.signals c.forget.new.self (map effect_of new.tables.effects.items) c.forget.ensures);
       answers = d.answers;
       most = d.most;
       rules = d.rules;
@@ -57,4 +73,4 @@ returns-in-Err-Gone-clause-refuses g c =
     let e : c.take_back.result ≡ Err own.Gone = c.in-Err-Gone.is ∙ ap Err c.in-Err-Gone.field-0-is in
     let same = untouched _ _ _ e c.take_back.ensures.err in
     let off = gone_tabled (map (λ p. record { there = is_some p.host; asks = p.count }) c.args.shelf.now.places.items) old (the_effect c.args.id) (c.take_back.ensures.gone (subst (λ r. IsErrOf r own.Gone) (sym e) refl)) in
-    (tt, (λ h. (off, ((λ i. record { graph = old.graph; watchers = old.watchers; tables = same i }), refl, refl))), inl refl)
+    (tt, (λ h. (off, ((λ i. record { graph = old.graph; watchers = old.watchers; tables = same i; heard = old.heard }), refl, refl))), inl refl)
