@@ -28,7 +28,7 @@ use Rattle.effect_world.specs.Signals.{Scene, Undoes, any_hosts, scene}
 use Rattle.effect_world.specs.Stores.{Agrees, Does, IsSound}
 use Rattle.sig_effect.specs.Events.{IsTold, Tells}
 use Rattle.effect_world.specs.Wholes.{stores_of, whole_of}
-use Rattle.effect_world.proofs.Shared.{one_told, owned_still, signals_done, tells_one}
+use Rattle.effect_world.proofs.Shared.{one_told, signals_done, tells_one}
 use Rattle.effect_world.specs.Answers.{Acted}
 
 -- one event is told of a world that stays as it is
@@ -125,11 +125,12 @@ acted_as slacks old new answers steps more f g same few p = acted_lent slacks ol
 
 -- what was done to the signals is done to the world
 pub acted_undoes : (slacks : List ℕ) (old new : Scene) (first last : Hosts → Type 0) (steps : ℕ) (act : plain.Environment → plain.World → plain.World) →
-    ((env : plain.Environment) → IsOfSignals (act env)) → Agrees old.asked old.world → length old.events ≤ length new.events → Undoes slacks old new first last steps act → Acted slacks old new first last steps act
-acted_undoes slacks old new first last steps act framed a told p = record {
+    ((env : plain.Environment) → IsOfSignals (act env)) → Agrees old.asked old.world → Agrees new.asked new.world → length old.events ≤ length new.events → Undoes slacks old new first last steps act →
+    Acted slacks old new first last steps act
+acted_undoes slacks old new first last steps act framed a later told p = record {
   does = λ hosts sound.
       signals_done hosts old.asked new.asked old.world new.world old.events new.events (act (environment hosts slacks)) (p.acts hosts sound) (framed (environment hosts slacks)) p.tables a.owned.tables;
-  agrees = record { signals = p.agrees; owned = owned_still old.world new.world p.given p.tables a.owned };
+  agrees = later;
   answers = p.answers;
   most = p.most;
   rules = p.rules;
@@ -200,6 +201,7 @@ acted_noted slacks old later asked before after e n c is ends more a =
           formed = subst AreFormed (sym takes.tree) takes.formed;
           fresh = λ k l. takes.signals.still k (λ q. cc) (a.owned.fresh k l);
         };
+        heard = a.heard;
       };
       answers = λ hosts h. h;
       most = omega arith;

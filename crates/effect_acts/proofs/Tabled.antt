@@ -6,6 +6,7 @@ use Rattle.effect_model.specs.Worlds as plain
 use Rattle.effect_model.specs.Worlds.{tell, at_rest}
 use Rattle.sig_owner.specs.Renames.{renamed}
 use Rattle.sig_owner.specs.Trees.{has_thing, owned_of}
+use Rattle.effect_tables.specs.declared.heard.Heard.{Heard}
 use Rattle.effect_tables.specs.declared.tables.Tables.{Tables}
 use Rattle.effect_tables.specs.Children.{with_child}
 use Rattle.effect_tables.specs.Consistency.{TablesAgree, LeavesOut}
@@ -20,19 +21,19 @@ use Rattle.sig_effect.specs.Wholes as wholes
 use Rattle.sig_effect.specs.declared.events.Event.{Event}
 use Rattle.effect_world.specs.declared.world.World.{World}
 use Rattle.effect_world.specs.Signals.{any_hosts, scene}
-use Rattle.effect_world.specs.Stores.{Agrees, AreOwned}
+use Rattle.effect_world.specs.Stores.{Agrees, AreOwned, Hears}
 use Rattle.sig_effect.specs.Events.{IsTold, Tells}
 use Rattle.effect_world.specs.Wholes.{stores_of, whole_of}
 use Rattle.effect_world.proofs.Shared.{one_told, tells_one}
 use Rattle.effect_world.specs.Answers.{Acted}
 
 -- the tables were changed, and one event told
-pub acted_tabled : (slacks : List ℕ) (old : World) (u : Tables) (asked : List HostPlace) (before after : List Event) (ev : Event) (t : plain.Event)
+pub acted_tabled : (slacks : List ℕ) (old : World) (u : Tables) (h : Heard) (asked : List HostPlace) (before after : List Event) (ev : Event) (t : plain.Event)
     (act : plain.Environment → plain.World → plain.World) (change : plain.World → plain.World) → ((w : plain.World) → placed u w ≡ change (placed old.tables w)) →
     ((env : plain.Environment) → act env (whole_of asked old) ≡ tell t (change (whole_of asked old))) → (change (whole_of asked old)).told ≡ [] → IsTold ev t → after ≡ before ++ ev ∷ [] →
-    u.effects_made ≤ old.tables.effects_made + 1 → AreOwned (record old { tables = u }) → Agrees asked old →
-    Acted slacks (scene old asked before) (scene (record old { tables = u }) asked after) any_hosts any_hosts 0 act
-acted_tabled slacks old u asked before after ev t act change does is quiet one more few owned a =
+    u.effects_made ≤ old.tables.effects_made + 1 → AreOwned (record old { tables = u }) → Hears (record old { tables = u; heard = h }) → Agrees asked old →
+    Acted slacks (scene old asked before) (scene (record old { tables = u; heard = h }) asked after) any_hosts any_hosts 0 act
+acted_tabled slacks old u h asked before after ev t act change does is quiet one more few owned heard a =
     let s : plain.World = wholes.whole_of asked (stores_of old) in
     record {
       does = λ hosts sound. record {
@@ -41,7 +42,7 @@ acted_tabled slacks old u asked before after ev t act change does is quiet one m
             (subst (λ ts. Tells before after (ts ++ t ∷ [])) (sym quiet) (subst (λ es. Tells before es (t ∷ [])) (sym more) (tells_one before ev t one)));
         sound = sound;
       };
-      agrees = record { signals = a.signals; owned = owned };
+      agrees = record { signals = a.signals; owned = record { tables = owned.tables; formed = owned.formed; fresh = owned.fresh }; heard = heard };
       answers = λ hosts h. h;
       most = omega arith;
       rules = λ count h. h;

@@ -48,6 +48,7 @@ pub fn make_child(
     let child = world
         .tables
         .make_child(alloc, id, row, site, place as usize)?;
+    world.heard.forget();
     events.push(Event::Made {
         child,
         parent: id,

@@ -28,6 +28,7 @@ pub fn keep_reads(
     ensures told { OnOk result (length events.new.items ≡ length events.old.items + 1) }
 {
     let alloc = *events.allocator();
+    world.heard.miss(&world.tables.effects, id);
     let names = sig_untrack::names(alloc, &reads)?;
     world.tables.keep(alloc, id, &reads)?;
     events.push(Event::Body(id, names))?;
