@@ -13,6 +13,8 @@ use Rattle.sig_effect.proofs.Shared.{agrees_settled, settle_does}
 use Rattle.effect_world.specs.declared.world.World.{World}
 use Rattle.effect_world.specs.Stores.{Agrees, Does, IsSound}
 use Rattle.effect_world.specs.Wholes.{stores_of}
+use Rattle.effect_tables.specs.Placed.{effect_of}
+use Rattle.effect_tables.proofs.Shared.{same_heard}
 use Rattle.effect_world.proofs.Shared.{owned_still, settle_done}
 use Rattle.live_pages.specs.Updates.{Settled}
 use Rattle.live_pages.proofs.Pages.{noted}
@@ -43,6 +45,8 @@ settled_by asked later before after counted names w g first notes none few agree
       agrees = record {
         signals = agrees_settled asked later (stores_of w) (stores_of new) s.signals s.idle s.there refl agrees.signals;
         owned = owned_still w new s.given refl agrees.owned;
+        heard = same_heard w.graph.state.signals g.state.signals w.heard w.heard (map effect_of w.tables.effects.items) (map effect_of w.tables.effects.items) s.signals refl refl
+            agrees.heard;
       };
       sound = λ hosts all sound. (settled_does hosts [] asked later before after names w g first notes none agrees s all sound).sound;
       answers = s.answers;
