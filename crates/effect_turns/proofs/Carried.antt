@@ -5,7 +5,8 @@ use Rattle.signal_model.specs.Recipes.{Hosts}
 use Rattle.effect_model.specs.Worlds as plain
 use Rattle.effect_model.specs.Worlds.{settle, at_rest}
 use Rattle.effect_tables.specs.declared.tables.Tables.{Tables}
-use Rattle.effect_tables.proofs.Shared.{placed_rests}
+use Rattle.effect_tables.specs.Placed.{effect_of}
+use Rattle.effect_tables.proofs.Shared.{placed_rests, same_heard}
 use Rattle.sig_host.specs.Hosts.{HostPlace, most_asked}
 use Rattle.sig_watcher.specs.Tables.{Table}
 use Rattle.sig_computed.specs.declared.notes.RunNote.{RunNote}
@@ -19,7 +20,7 @@ use Rattle.sig_effect.specs.declared.events.Event.{Event}
 use Rattle.sig_effect.specs.declared.events.Event.TheVariants as event
 use Rattle.effect_world.specs.declared.world.World.{World}
 use Rattle.effect_world.specs.Signals.{Scene, any_hosts, scene}
-use Rattle.effect_world.specs.Stores.{Agrees, Does, IsSound}
+use Rattle.effect_world.specs.Stores.{Agrees, Does, Hears, IsSound}
 use Rattle.sig_effect.specs.Events.{Tells}
 use Rattle.effect_world.specs.Costs.{weight}
 use Rattle.effect_world.specs.Wholes.{stores_of, whole_of}
@@ -80,6 +81,25 @@ runs_still slacks x answers act a is = record {
 pub spends_none : (x : Scene) → Spends x x
 spends_none x = record { weight = omega arith; most = omega arith }
 
+-- nothing but what is known of effects
+pub runs_heard : (slacks : List ℕ) (x : Scene) (new : World) (answers : Hosts → Type 0) (act : plain.Environment → plain.World → plain.World) →
+    new ≡ record (x.world) { heard = new.heard } → Hears new → Runs slacks x x answers answers act → Runs slacks x (scene new x.asked x.events) answers answers act
+runs_heard slacks x new answers act same heard r =
+    subst (λ (w : World). Runs slacks x (scene w x.asked x.events) answers answers act) (sym same)
+    (record {
+      does = λ hosts all sound. let d = r.does hosts all sound in record { whole = d.whole; told = d.told; sound = d.sound };
+      agrees = record { signals = r.agrees.signals; owned = record { tables = r.agrees.owned.tables; formed = r.agrees.owned.formed; fresh = r.agrees.owned.fresh }; heard = subst Hears same heard };
+      answers = λ hosts h. h;
+      rules = λ count h. h;
+      given = refl;
+      made = refl;
+    })
+
+pub spends_heard : (x : Scene) (new : World) → new ≡ record (x.world) { heard = new.heard } → Spends x (scene new x.asked x.events)
+spends_heard x new same =
+    let e : weight (record (x.world) { heard = new.heard }) ≡ weight x.world = refl in
+    subst (λ (w : World). Spends x (scene w x.asked x.events)) (sym same) (record { weight = omega (arith, e); most = omega arith })
+
 -- ---- events behind others
 
 tells_behind : (none told before after : List Event) (ts : List plain.Event) → none ≡ [] → after ≡ before ++ told → Tells none told ts → Tells before after ts
@@ -128,10 +148,10 @@ acted_runs slacks old new before after steps act a = record {
 }
 
 pub settled_runs : (slacks : List ℕ) (old new : World) (asked later : List HostPlace) (none notes : List RunNote) (before after : List Event) (first last : Hosts → Type 0)
-    (names : Hosts → List ℕ) → none ≡ [] → after ≡ before ++ map event.Run notes → new.tables ≡ old.tables → new.watchers ≡ old.watchers → Agrees asked old →
+    (names : Hosts → List ℕ) → none ≡ [] → after ≡ before ++ map event.Run notes → new.tables ≡ old.tables → new.watchers ≡ old.watchers → new.heard ≡ old.heard → Agrees asked old →
     Settles (settling.scene old.graph asked none) (settling.scene new.graph later notes) first last names →
     Runs slacks (scene old asked before) (scene new later after) first last (λ env. settle env (names env.hosts))
-settled_runs slacks old new asked later none notes before after first last names empty is same watched a s = record {
+settled_runs slacks old new asked later none notes before after first last names empty is same watched heard a s = record {
   does = λ hosts all sound.
       settle_done hosts slacks asked later old new before after (names hosts)
       (settle_does hosts slacks asked later (stores_of old) (stores_of new) (names hosts) notes before after s.signals s.given watched
@@ -142,6 +162,8 @@ settled_runs slacks old new asked later none notes before after first last names
   agrees = record {
     signals = agrees_settled asked later (stores_of old) (stores_of new) s.signals s.idle s.there watched a.signals;
     owned = owned_still old new s.given same a.owned;
+    heard = same_heard old.graph.state.signals new.graph.state.signals old.heard new.heard (map effect_of old.tables.effects.items) (map effect_of new.tables.effects.items)
+        s.signals heard (ap (λ (t : Tables). map effect_of t.effects.items) same) a.heard;
   };
   answers = s.answers;
   rules = λ count h. subst (AreRuled count) (sym s.signals) h;

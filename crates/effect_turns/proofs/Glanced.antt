@@ -38,15 +38,15 @@ glance_none slacks x answers id a none =
 -- else what that effect keeps is settled
 pub glance_some : (slacks : List ℕ) (old new : World) (asked later : List HostPlace) (none notes : List RunNote) (before after : List Event) (first last : Hosts → Type 0)
     (id : ℕ) (x : Effect) → effect_at id (map effect_of old.tables.effects.items) ≡ Some (effect_of x) →
-    none ≡ [] → after ≡ before ++ map event.Run notes → new.tables ≡ old.tables → new.watchers ≡ old.watchers → Agrees asked old →
+    none ≡ [] → after ≡ before ++ map event.Run notes → new.tables ≡ old.tables → new.watchers ≡ old.watchers → new.heard ≡ old.heard → Agrees asked old →
     Settles (settling.scene old.graph asked none) (settling.scene new.graph later notes) first last
     (λ hosts. looked_names (λ m. value_of hosts old.graph.state.signals m []) (effect_of x).kept) →
     Runs slacks (scene old asked before) (scene new later after) first last (λ env. glance env id)
-glance_some slacks old new asked later none notes before after first last id x at empty is same watched a s =
+glance_some slacks old new asked later none notes before after first last id x at empty is same watched heard a s =
     runs_as slacks (scene old asked before) (scene new later after) first last
     (λ env. settle env (looked_names (λ m. value_of env.hosts old.graph.state.signals m []) (effect_of x).kept)) (λ env. glance env id)
     (λ hosts all sound.
     let env : plain.Environment = environment hosts slacks in
     sym (ap (λ (o : Option plain.Effect). to_effect (look env) o (whole_of asked old)) at))
     (settled_runs slacks old new asked later none notes before after first last
-    (λ hosts. looked_names (λ m. value_of hosts old.graph.state.signals m []) (effect_of x).kept) empty is same watched a s)
+    (λ hosts. looked_names (λ m. value_of hosts old.graph.state.signals m []) (effect_of x).kept) empty is same watched heard a s)

@@ -1,6 +1,6 @@
 -- An effect at a place is the one of its number, since numbers rise.
 use Rattle.std.proofs.Common.{◌≡◌, ℕ, zero, suc, ◌<◌, ◌≤◌, ◌==◌, true, false, cond, List, [], ◌∷◌, map, length, Some, sym, ap, subst, ◌∙◌, arith}
-use Rattle.std.specs.Prelude.{slice_index_or}
+use Rattle.std.specs.Prelude.{slice_get, slice_index_or}
 use Rattle.std.proofs.lemmas.Bool.Decides.{nat_tests}
 use Rattle.effect_model.specs.Worlds.{effect_at}
 use Rattle.effect_tables.specs.declared.effect.Effect.{Effect}
@@ -26,3 +26,8 @@ stands low n (suc p) (y ∷ ys) x up l is e =
     let m : suc y.id ≤ x.id = later (suc y.id) p ys x up.1 k is in
     let off : (n == y.id) ≡ false = grind (arith, nat_tests, m, e) in
     ap (λ b. cond b (Some (effect_of y)) (effect_at n (map effect_of ys))) off ∙ stands (suc y.id) n p ys x up.1 k is e
+
+pub at_place : (p : ℕ) (xs : List Effect) (x : Effect) → p < length xs → x ≡ slice_index_or xs p x → slice_get (map effect_of xs) p ≡ Some (effect_of x)
+at_place p [] x l is = absurd (omega (arith, l))
+at_place zero (y ∷ ys) x l is = ap (λ (z : Effect). Some (effect_of z)) (sym is)
+at_place (suc p) (y ∷ ys) x l is = at_place p ys x (omega (arith, l)) is

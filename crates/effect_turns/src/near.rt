@@ -1,5 +1,5 @@
 // An effect at the place where it is expected.
-ghost use Rattle.std.specs.Prelude.{◌≡◌, None, Some, IfNone, IfSome, map};
+ghost use Rattle.std.specs.Prelude.{◌≡◌, None, Some, IfNone, IfSome, map, slice_get};
 ghost use Rattle.effect_model.specs.Worlds.{effect_at};
 ghost use Rattle.effect_tables.specs.Consistency.{AreRising, TablesAgree};
 ghost use Rattle.effect_tables.specs.Placed.{effect_of};
@@ -10,7 +10,8 @@ use sig_base::EffectId;
 /// The effect at a place, where it has this number.
 pub(crate) fn effect_here(effects: &[Effect], place: usize, id: EffectId) -> Option<&Effect>
     requires { AreRising 0 effects.now }
-    ensures { IfSome result (λ x. effect_at id (map effect_of effects.now) ≡ Some (effect_of x.now)) }
+    ensures lives { IfSome result (λ x. effect_at id (map effect_of effects.now) ≡ Some (effect_of x.now)) }
+    ensures place { IfSome result (λ x. slice_get (map effect_of effects.now) place ≡ Some (effect_of x.now)) }
 {
     if place >= effects.len() {
         return None;

@@ -1,15 +1,17 @@
 // Effects that need no look.
-ghost use Rattle.std.specs.Prelude.{◌≡◌, IsTrue};
+ghost use Rattle.std.specs.Prelude.{◌≡◌, IsTrue, OnOk};
 ghost use Rattle.effect_tables.specs.Consistency.{TablesAgree};
 ghost use Rattle.effect_tables.specs.Placed.{effect_of};
+ghost use Rattle.effect_world.specs.Stores.{Hears};
 ghost use Rattle.effect_turns.specs.Stills.{are_kept_still, IsQuiet};
 
 use crate::near::effect_here;
 use effect_runs::are_still;
 use effect_tables::Effect;
 use effect_world::World;
-use sig_base::EffectId;
+use sig_base::{EffectId, NoMemory};
 use sig_nodes::Graph;
+use std::alloc::Global;
 
 // Whether an effect has run, and all that it read, tracked, in its last run are cells that have their values still.
 fn has_still(graph: &Graph, effect: &Effect) -> bool
@@ -31,4 +33,46 @@ pub(crate) fn is_quiet(world: &World, place: usize, id: EffectId) -> bool
         Some(effect) => has_still(&world.graph, effect),
         None => false,
     }
+}
+
+/// Whether the effect of a number stands at a place and is marked as one that needs no look, as it isn't due.
+pub(crate) fn is_known(world: &World, place: usize, id: EffectId) -> bool
+    requires tables { TablesAgree world.now.tables }
+    requires heard { Hears world.now }
+    ensures { IsTrue result → IsQuiet id world.now }
+{
+    if !world.heard.is_quiet(place) {
+        return false;
+    }
+    match effect_here(&world.tables.effects, place, id) {
+        Some(_) => true,
+        None => false,
+    }
+}
+
+/// Marks the effect of a number, which stands at a place: until a cell that it read has another value it needs no look.
+///
+/// # Errors
+///
+/// After `NoMemory` the world may only be dropped.
+pub(crate) fn hear(
+    world: &mut World,
+    alloc: Global,
+    place: usize,
+    id: EffectId,
+) -> Result<(), NoMemory>
+    requires tables { TablesAgree world.old.tables }
+    requires heard { Hears world.old }
+    requires quiet { IsQuiet id world.old }
+    ensures same { OnOk result (world.new ≡ record world.old { heard = world.new.heard }) }
+    ensures heard { OnOk result (Hears world.new) }
+{
+    let Some(effect) = effect_here(&world.tables.effects, place, id) else {
+        return Ok(());
+    };
+    let Some(reads) = &effect.kept else {
+        return Ok(());
+    };
+    world.heard.hear(alloc, place, reads)?;
+    Ok(())
 }

@@ -12,7 +12,7 @@ ghost use Rattle.effect_turns.specs.Runs.{CanRun, Runs, Spends};
 ghost use Rattle.effect_tables.specs.Visits.{is_due, some_ran, visit, visit_all};
 
 use crate::glance::glance;
-use crate::quiet::is_quiet;
+use crate::quiet::{hear, is_known, is_quiet};
 use crate::run::run_effect;
 use effect_tables::Effect;
 use effect_world::World;
@@ -33,7 +33,7 @@ pub(crate) fn numbers(alloc: Global, effects: &[Effect]) -> Result<Vec<EffectId>
 }
 
 // Looks at the effect of a number, which is looked for at a place first, and runs it where it lives and is due: whether it was. One that has
-// read cells alone that have their values still needs no look.
+// read cells alone that have their values still needs no look, and is marked: it is passed over until one of them has another value.
 fn visit(
     world: &mut World,
     shelf: &mut Shelf,
@@ -54,7 +54,11 @@ fn visit(
         (scene world.old (⟦<Shelf as Lent>⟧.asked shelf.old) events.old.items) (scene world.new (⟦<Shelf as Lent>⟧.asked shelf.new) events.new.items)) }
     ensures counted { OnOk result (⟦<Shelf as Lent>⟧.counted shelf.new) }
 {
+    if is_known(world, place, id) {
+        return Ok(false);
+    }
     if is_quiet(world, place, id) {
+        hear(world, *events.allocator(), place, id)?;
         return Ok(false);
     }
     let due = glance(world, shelf, id, place, events)?;

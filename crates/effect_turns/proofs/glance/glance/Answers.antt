@@ -16,6 +16,6 @@ returns-clause-due g c = λ hosts slacks all sound.
 
 pub returns-clause-done : goal.returns-clause-done
 returns-clause-done g c = λ slacks.
-    let new : World = record { graph = c.look_at.new.graph; watchers = c.args.world.now.watchers; tables = c.args.world.now.tables } in
+    let new : World = record { graph = c.look_at.new.graph; watchers = c.args.world.now.watchers; tables = c.args.world.now.tables; heard = c.args.world.now.heard } in
     glance_some slacks c.args.world.now new _ _ _ _ _ _ _ _ c.args.id c.in-Some.effect.now c.in-Some.ensures.some c.new-notes.ensures.items
-    c.in_ok-tell_runs.ensures refl refl c.requires.can.agrees c.in_ok-due.ensures.after
+    c.in_ok-tell_runs.ensures refl refl refl c.requires.can.agrees c.in_ok-due.ensures.after

@@ -6,7 +6,7 @@ use Rattle.effect_turns.proofs.quiet.is_quiet.Goals as goal
 pub returns-in-Some : goal.returns-in-Some
 returns-in-Some c = λ h. record {
   effect = effect_of c.in-Some.effect.now;
-  lives = ap (λ xs. effect_at c.args.id (map effect_of xs)) (sym c.deref.ensures.value) ∙ c.in-Some.ensures;
+  lives = ap (λ xs. effect_at c.args.id (map effect_of xs)) (sym c.deref.ensures.value) ∙ c.in-Some.ensures.lives;
   still = sym c.has_still.ensures ∙ h;
 }
 

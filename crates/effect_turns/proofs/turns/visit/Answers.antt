@@ -1,8 +1,33 @@
 use Rattle.std.proofs.Common.{[], map}
-use Rattle.effect_turns.proofs.Carried.{can_then, spends_none, spends_then}
+use Rattle.effect_turns.proofs.Carried.{can_then, runs_heard, spends_heard, spends_none, spends_then}
 use Rattle.effect_turns.proofs.Loops.{due_found, due_passed, visit_found, visit_passed}
 use Rattle.effect_turns.proofs.Stills.{quiet_due, quiet_visit}
 use Rattle.effect_turns.proofs.turns.visit.Goals as goal
+
+pub is_known-requires-clause-tables : goal.is_known-requires-clause-tables
+is_known-requires-clause-tables g c = c.requires.can.agrees.owned.tables
+
+pub is_known-requires-clause-heard : goal.is_known-requires-clause-heard
+is_known-requires-clause-heard g c = c.requires.can.agrees.heard
+
+pub returns-then-is_known-clause-due : goal.returns-then-is_known-clause-due
+returns-then-is_known-clause-due g c = λ hosts all sound.
+    quiet_due (map (λ r. r.slack) c.args.rules.now) hosts _ c.args.world.now c.args.id sound (c.is_known.ensures c.if-is_known.true)
+
+pub returns-then-is_known-clause-done : goal.returns-then-is_known-clause-done
+returns-then-is_known-clause-done g c = quiet_visit _ _ _ c.args.id c.requires.can.agrees (c.is_known.ensures c.if-is_known.true)
+
+pub returns-then-is_known-clause-spent : goal.returns-then-is_known-clause-spent
+returns-then-is_known-clause-spent g c = spends_none _
+
+pub hear-requires-clause-tables : goal.hear-requires-clause-tables
+hear-requires-clause-tables g c = c.requires.can.agrees.owned.tables
+
+pub hear-requires-clause-heard : goal.hear-requires-clause-heard
+hear-requires-clause-heard g c = c.requires.can.agrees.heard
+
+pub hear-requires-clause-quiet : goal.hear-requires-clause-quiet
+hear-requires-clause-quiet g c = c.is_quiet.ensures c.if-is_quiet.true
 
 pub is_quiet-requires : goal.is_quiet-requires
 is_quiet-requires g c = c.requires.can.agrees.owned.tables
@@ -12,10 +37,12 @@ returns-then-is_quiet-clause-due g c = λ hosts all sound.
     quiet_due (map (λ r. r.slack) c.args.rules.now) hosts _ c.args.world.now c.args.id sound (c.is_quiet.ensures c.if-is_quiet.true)
 
 pub returns-then-is_quiet-clause-done : goal.returns-then-is_quiet-clause-done
-returns-then-is_quiet-clause-done g c = quiet_visit _ _ _ c.args.id c.requires.can.agrees (c.is_quiet.ensures c.if-is_quiet.true)
+returns-then-is_quiet-clause-done g c =
+    runs_heard _ _ c.hear.new.world _ _ c.in_ok-hear.ensures.same c.in_ok-hear.ensures.heard
+    (quiet_visit _ _ _ c.args.id c.requires.can.agrees (c.is_quiet.ensures c.if-is_quiet.true))
 
 pub returns-then-is_quiet-clause-spent : goal.returns-then-is_quiet-clause-spent
-returns-then-is_quiet-clause-spent g c = spends_none _
+returns-then-is_quiet-clause-spent g c = spends_heard _ c.hear.new.world c.in_ok-hear.ensures.same
 
 pub returns-then-not-due-clause-due : goal.returns-then-not-due-clause-due
 returns-then-not-due-clause-due g c = λ hosts all sound. due_passed _ _ c.if-not-due.true (c.in_ok-due.ensures.due hosts (map (λ r. r.slack) c.args.rules.now) all sound)
