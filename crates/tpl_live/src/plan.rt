@@ -25,7 +25,7 @@ use tpl_blocks::Block;
 use tpl_drawn::{Compared, Numbers, PageNodes, compared, put_addresses, put_coming, put_shown};
 use tpl_kept::Renewed;
 use tpl_model::{Address, Change, Child, Mark, PageMemo, Shown};
-use tpl_patch::{NumberSet, put_looks, put_moves, removals};
+use tpl_patch::{put_looks, put_moves, removals};
 
 /// The numbers of a page's nodes, by their addresses, and the lines of those below the root, from those that it shows there and from its tree.
 ///
@@ -194,8 +194,7 @@ fn operations(
         IfOk result (λ p. map op_of p.ops.items ≡ ops_towards tree.now after (map mark_of touched.items) (map mark_of restated.now)) }
 {
     let parents = mark_numbers(alloc, &touched)?;
-    let children = staying(alloc, &touched)?;
-    let kept = NumberSet::of(alloc, &children)?;
+    let kept = staying(alloc, &touched)?;
     let mut ops = removals(alloc, tree, &kept, &parents)?;
     let behind = put_moves(alloc, tree, next, &touched, &mut ops)?;
     put_looks(tree, restated, &mut ops)?;

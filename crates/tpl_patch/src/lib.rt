@@ -12,4 +12,3 @@ pub use arrivals::put_nodes;
 pub use leaving::removals;
 pub use looks::put_looks;
 pub use moves::put_moves;
-pub use set::NumberSet;

@@ -1,5 +1,5 @@
 // Sets of numbers.
-ghost use Rattle.std.specs.Prelude.{◌≡◌, ℕ, IfOk, true};
+ghost use Rattle.std.specs.Prelude.{◌≡◌, ℕ, IfOk};
 ghost use Rattle.page_model.specs.Edits.{listed};
 ghost use Rattle.tpl_patch.specs.Sets.{tells};
 
@@ -8,7 +8,7 @@ use sig_base::NoMemory;
 use std::alloc::Global;
 
 /// A set of numbers.
-pub struct NumberSet {
+pub(crate) struct NumberSet {
     numbers: IndexSet<u64>,
 }
 
@@ -24,7 +24,7 @@ impl NumberSet {
     /// # Errors
     ///
     /// `NoMemory` alone.
-    pub fn of(alloc: Global, numbers: &[u64]) -> Result<NumberSet, NoMemory>
+    pub(crate) fn of(alloc: Global, numbers: &[u64]) -> Result<NumberSet, NoMemory>
         ensures { IfOk result (λ s. (n : ℕ) → tells s n ≡ listed n numbers.now) }
     {
         let mut held = IndexSet::new(alloc);
@@ -34,19 +34,8 @@ impl NumberSet {
         Ok(NumberSet { numbers: held })
     }
 
-    /// Whether a number stands at a place of it, in the order in which they came.
-    #[tactic(auto, using(crate::proofs::Numbers::one_there))]
-    pub fn has_at(&self, place: usize, number: u64) -> bool
-        ensures { result ≡ true → tells self.now number ≡ true }
-    {
-        match self.numbers.get_index(place) {
-            Some(held) => *held == number,
-            None => false,
-        }
-    }
-
     /// Whether it has a number.
-    pub fn has(&self, number: u64) -> bool
+    pub(crate) fn has(&self, number: u64) -> bool
         ensures { result ≡ tells self.now number }
     {
         self.numbers.contains(&number)
