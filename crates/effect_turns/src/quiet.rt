@@ -7,10 +7,11 @@ ghost use Rattle.effect_turns.specs.Stills.{are_kept_still, IsQuiet};
 
 use crate::near::effect_here;
 use effect_runs::are_still;
-use effect_tables::Effect;
+use effect_tables::{Effect, Heard};
 use effect_world::World;
-use sig_base::{EffectId, NoMemory};
+use sig_base::{EffectId, NoMemory, NodeId};
 use sig_nodes::Graph;
+use sig_untrack::Read;
 use std::alloc::Global;
 
 // Whether an effect has run, and all that it read, tracked, in its last run are cells that have their values still.
@@ -50,7 +51,24 @@ pub(crate) fn is_known(world: &World, place: usize, id: EffectId) -> bool
     }
 }
 
-/// Marks the effect of a number, which stands at a place: until a cell that it read has another value it needs no look.
+// Of how many effects at most it is noted that one cell wakes them, as each that is noted is looked for among them.
+const MOST_NOTED: usize = 32;
+
+// Whether a cell wakes as many. It decides what is marked, and nothing of what comes of it.
+fn is_crowded(heard: &Heard, id: NodeId) -> bool {
+    match heard.readers.get(&id) {
+        Some(places) => places.len() > MOST_NOTED,
+        None => false,
+    }
+}
+
+// Whether one of these was read of such a cell.
+fn some_crowded(heard: &Heard, reads: &[Read]) -> bool {
+    reads.iter().any(|read| is_crowded(heard, read.id))
+}
+
+/// Marks the effect of a number, which stands at a place: until a cell that it read has another value it needs no look. One that
+/// read a cell of which many are noted stays unmarked.
 ///
 /// # Errors
 ///
@@ -73,6 +91,9 @@ pub(crate) fn hear(
     let Some(reads) = &effect.kept else {
         return Ok(());
     };
+    if some_crowded(&world.heard, reads) {
+        return Ok(());
+    }
     world.heard.hear(alloc, place, reads)?;
     Ok(())
 }
