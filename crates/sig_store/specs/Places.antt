@@ -24,6 +24,10 @@ module _ {T : Type 0} where
   pub record AreOwn (at : ℕ → Option ℕ) (look : ℕ → Option (Held T)) : Type 0 where
     pub place : (n p : ℕ) → number_there look p ≡ Some n → at n ≡ Some p
 
+  -- a value stands under a number, wherever what places hold is of the numbers that have them
+  abbrev pub IsValueOf : (ℕ → Option (Held T)) → ℕ → T → Type 0
+  IsValueOf look n v = (at : ℕ → Option ℕ) → AreOwn at look → value_there look (at n) ≡ Some v
+
   -- what stands under each number that was given, by the places of numbers and by what places hold
   unfoldable pub entries_by : (ℕ → Option ℕ) → (ℕ → Option (Held T)) → ℕ → List (Option T)
   entries_by at look made = counted_up (λ n. value_there look (at n)) made

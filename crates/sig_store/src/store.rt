@@ -4,7 +4,7 @@ ghost use Rattle.std.specs.Borrow.{sem};
 ghost use Rattle.indexmap.specs.IndexMap.{get, spare, Updates};
 ghost use Rattle.slab.specs.Slab.{get as held_at};
 ghost use Rattle.sig_store.specs.Stored.{entry};
-ghost use Rattle.sig_store.specs.Places.{number_there, value_there, AreOwn};
+ghost use Rattle.sig_store.specs.Places.{number_there, value_there, AreOwn, IsValueOf};
 
 use indexmap::IndexMap;
 use sig_base::NoMemory;
@@ -68,16 +68,53 @@ fn note_hint(hints: &mut [usize], number: u128, place: usize) {
     }
 }
 
+// The value that a place holds, where it is that of a number.
+fn checked_value<T>(held: &Slab<Held<T>>, place: usize, number: u128) -> Option<&T>
+    ensures number { IfSome result (λ v. number_there (held_at held.now) place ≡ Some number) }
+    ensures value { IfSome result (λ v. value_there (held_at held.now) (Some place) ≡ Some v.now) }
+{
+    let one = held.get(place)?;
+    if one.number == number {
+        Some(&one.value)
+    } else {
+        None
+    }
+}
+
 // A place, where it holds the value of a number.
 fn checked_place<T>(held: &Slab<Held<T>>, place: usize, number: u128) -> Option<usize>
     ensures { IfSome result (λ p. number_there (held_at held.now) p ≡ Some number) }
 {
-    let one = held.get(place)?;
-    if one.number == number {
-        Some(place)
-    } else {
-        None
+    let _value = checked_value(held, place, number)?;
+    Some(place)
+}
+
+// The value of a number that is its own place, as each is where nothing was taken out before.
+fn first_value<T>(held: &Slab<Held<T>>, number: u128) -> Option<&T>
+    ensures { IfSome result (λ v. IsValueOf (held_at held.now) number v.now) }
+{
+    match usize::try_from(number) {
+        Ok(place) => checked_value(held, place, number),
+        Err(_) => None,
     }
+}
+
+// The place of such a number.
+fn first_place<T>(held: &Slab<Held<T>>, number: u128) -> Option<usize>
+    ensures { IfSome result (λ p. number_there (held_at held.now) p ≡ Some number) }
+{
+    match usize::try_from(number) {
+        Ok(place) => checked_place(held, place, number),
+        Err(_) => None,
+    }
+}
+
+// The value of a number, where its hint leads to it.
+fn hinted_value<'a, T>(hints: &[usize], held: &'a Slab<Held<T>>, number: u128) -> Option<&'a T>
+    ensures { IfSome result (λ v. IsValueOf (held_at held.now) number v.now) }
+{
+    let place = *hints.get(hint_of(number))?;
+    checked_value(held, place, number)
 }
 
 // The place that is a number's hint, where it holds the value of that number.
@@ -88,26 +125,6 @@ fn hinted_place<T>(hints: &[usize], held: &Slab<Held<T>>, number: u128) -> Optio
     checked_place(held, place, number)
 }
 
-// The place that is a number itself, as it is where nothing was taken out before, where it holds the value of that number.
-fn first_place<T>(held: &Slab<Held<T>>, number: u128) -> Option<usize>
-    ensures { IfSome result (λ p. number_there (held_at held.now) p ≡ Some number) }
-{
-    match usize::try_from(number) {
-        Ok(place) => checked_place(held, place, number),
-        Err(_) => None,
-    }
-}
-
-// The first of these two.
-fn likely_place<T>(hints: &[usize], held: &Slab<Held<T>>, number: u128) -> Option<usize>
-    ensures { IfSome result (λ p. number_there (held_at held.now) p ≡ Some number) }
-{
-    match first_place(held, number) {
-        Some(place) => Some(place),
-        None => hinted_place(hints, held, number),
-    }
-}
-
 // Where the value of a number stands, by the index. It is seldom asked, so what looks elsewhere first stays short.
 #[cold]
 #[inline(never)]
@@ -115,6 +132,64 @@ fn indexed_place(places: &IndexMap<u128, usize>, number: u128) -> Option<usize>
     ensures { result ≡ get nat_eq places.now number }
 {
     places.get(&number).copied()
+}
+
+// The value that a place holds.
+fn value_in<T>(held: &Slab<Held<T>>, place: usize) -> Option<&T>
+    ensures { option_copied result ≡ value_there (held_at held.now) (Some place) }
+{
+    match held.get(place) {
+        Some(one) => Some(&one.value),
+        None => None,
+    }
+}
+
+// The value of a number, by the index.
+fn indexed_value<'a, T>(
+    places: &IndexMap<u128, usize>,
+    held: &'a Slab<Held<T>>,
+    number: u128,
+) -> Option<&'a T>
+    ensures { option_copied result ≡ value_there (held_at held.now) (get nat_eq places.now number) }
+{
+    match indexed_place(places, number) {
+        Some(place) => value_in(held, place),
+        None => None,
+    }
+}
+
+// The value of a number that isn't its own place. It stands apart, so that the look before it is short enough to stand where it is asked.
+#[inline(never)]
+fn later_value<'a, T>(
+    places: &IndexMap<u128, usize>,
+    hints: &[usize],
+    held: &'a Slab<Held<T>>,
+    number: u128,
+) -> Option<&'a T>
+    requires { AreOwn (get nat_eq places.now) (held_at held.now) }
+    ensures { option_copied result ≡ value_there (held_at held.now) (get nat_eq places.now number) }
+{
+    match hinted_value(hints, held, number) {
+        Some(value) => Some(value),
+        None => indexed_value(places, held, number),
+    }
+}
+
+// The place of such a number, apart for the same reason.
+#[inline(never)]
+fn later_place<T>(
+    places: &IndexMap<u128, usize>,
+    hints: &[usize],
+    held: &Slab<Held<T>>,
+    number: u128,
+) -> Option<usize>
+    requires { AreOwn (get nat_eq places.now) (held_at held.now) }
+    ensures { result ≡ get nat_eq places.now number }
+{
+    match hinted_place(hints, held, number) {
+        Some(place) => Some(place),
+        None => indexed_place(places, number),
+    }
 }
 
 // Where the value of a number stands.
@@ -127,9 +202,9 @@ fn place_of<T>(
     requires { AreOwn (get nat_eq places.now) (held_at held.now) }
     ensures { result ≡ get nat_eq places.now number }
 {
-    match likely_place(hints, held, number) {
+    match first_place(held, number) {
         Some(place) => Some(place),
-        None => indexed_place(places, number),
+        None => later_place(places, hints, held, number),
     }
 }
 
@@ -175,16 +250,6 @@ fn forget_place(places: &mut IndexMap<u128, usize>, number: u128) -> usize
     }
 }
 
-// The value that a place holds.
-fn value_in<T>(held: &Slab<Held<T>>, place: usize) -> Option<&T>
-    ensures { option_copied result ≡ value_there (held_at held.now) (Some place) }
-{
-    match held.get(place) {
-        Some(one) => Some(&one.value),
-        None => None,
-    }
-}
-
 impl<T> Store<T> {
     ghost use Rattle.sig_store.specs.Lends.{lends_value};
 
@@ -222,9 +287,9 @@ impl<T> Store<T> {
     pub fn get(&self, number: u128) -> Option<&T>
         ensures { option_copied result ≡ entry self.now.entries number }
     {
-        match place_of(&self.places, &self.hints, &self.held, number) {
-            Some(place) => value_in(&self.held, place),
-            None => None,
+        match first_value(&self.held, number) {
+            Some(value) => Some(value),
+            None => later_value(&self.places, &self.hints, &self.held, number),
         }
     }
 
