@@ -10,6 +10,10 @@ use Rattle.tpl_model.specs.declared.shown.Address.{Address}
 use Rattle.tpl_drawn.specs.declared.marks.numbers.Numbers.{Numbers}
 use Rattle.tpl_drawn.specs.declared.marks.nodes.PageNodes.{PageNodes}
 
+-- the address of a line in the row of that key
+abbrev pub address_at : ℕ → Option (List ℕ) → Address
+address_at line key = record { line = line; key = key }
+
 -- the number that a map has at an address
 abbrev pub number_in : {S : Type 0} → IndexMap Address ℕ S → Address → Option ℕ
 number_in all a = get same_address all a

@@ -1,5 +1,6 @@
 // The nodes of a shape that stand on a page already, with their numbers there.
 mod arrivals;
+mod guess;
 mod lines;
 mod marker;
 mod nodes;

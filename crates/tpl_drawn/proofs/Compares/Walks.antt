@@ -90,6 +90,14 @@ unfit_gone known k b m c e = λ i. record {
   restated = unfit_marked restating restated_part known k b m c e i;
 }
 
+-- what stays is told in one way
+pub stays_alone : (c : Change) → is_stays c ≡ true → c ≡ stays
+stays_alone stays e = refl
+stays_alone made e = absurd (false≢true e)
+stays_alone (over s i l) e = absurd (false≢true e)
+stays_alone (also c d) e = absurd (false≢true e)
+stays_alone nothing e = absurd (false≢true e)
+
 -- of lines that stay nothing is marked
 pub stays_marked : (mark : Marking) (part : Marked → Marked) (known : ℕ → Option ℕ) (k : Option (List ℕ)) (b : Block) (m : PageMemo) →
     marked_by mark part known k b m stays ≡ []

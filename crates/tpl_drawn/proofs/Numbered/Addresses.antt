@@ -1,6 +1,7 @@
 -- Addresses that are noted with their numbers.
-use Rattle.std.proofs.Common.{◌≡◌, ℕ, zero, suc, ◌+◌, ◌<◌, ◌≤◌, ◌==◌, ◌||◌, Bool, true, false, cond, Option, Some, None, List, [], ◌∷◌, ◌++◌, drop, length, map, get_or, refl, sym, ap, ◌∙◌, arith}
+use Rattle.std.proofs.Common.{◌≡◌, eq-eqb, ℕ, zero, suc, ◌+◌, ◌<◌, ◌≤◌, ◌==◌, ◌||◌, Bool, true, false, cond, Option, Some, None, List, [], ◌∷◌, ◌++◌, drop, length, map, get_or, refl, sym, ap, ◌∙◌, arith}
 use Rattle.std.proofs.lemmas.List.{drop_more}
+use Rattle.page_model.specs.Addresses.{address}
 use Rattle.page_model.specs.Forest.{Forest, none, node, keys, label_in, on, tally}
 use Rattle.page_model.specs.Labels.{Root, Look}
 use Rattle.page_model.specs.Pages.{by_number}
@@ -9,7 +10,7 @@ use Rattle.indexmap.specs.IndexMap.{IndexMap}
 use Rattle.tpl_model.specs.ShownNodes.Addresses.{address_of, same_address, same_address-Decides}
 use Rattle.tpl_model.specs.declared.shown.Address.{Address}
 use Rattle.tpl_model.proofs.Shared.{same_number}
-use Rattle.tpl_drawn.specs.Addresses.{AreNumbersOf, noted, noted_from, number_in}
+use Rattle.tpl_drawn.specs.Addresses.{address_at, AreNumbersOf, noted, noted_from, number_in}
 
 -- ---- one after the other
 
@@ -175,3 +176,8 @@ are_numbers xs ms t root number e once keys_are all_are a =
 -- the same address has the same number
 pub number_same : {S : Type 0} (all : IndexMap Address ℕ S) (a b : Address) (n : ℕ) → same_address a b ≡ true → number_in all a ≡ Some n → number_in all b ≡ Some n
 number_same all a b n e h = ap (number_in all) (sym ((same_address-Decides a b).0 e)) ∙ h
+
+-- an address of the same code is the address of that line and key
+pub address_is : (a : Address) (line : ℕ) (key : Option (List ℕ)) → address_of a ≡ address line key → a ≡ address_at line key
+address_is a line key e =
+    (same_address-Decides a (address_at line key)).0 (same_number a (address_at line key) ∙ eq-eqb (address_of a) (address line key) e)

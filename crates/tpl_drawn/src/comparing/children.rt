@@ -1,12 +1,14 @@
 // The children of a node whose inside is gone over.
-ghost use Rattle.std.specs.Prelude.{◌≡◌, ◌++◌, None, map, OnOk};
+ghost use Rattle.std.specs.Prelude.{◌≡◌, ◌++◌, [], None, map, IfOk, OnOk};
 ghost use Rattle.tpl_blocks.specs.Blocks.{block};
 ghost use Rattle.tpl_drawn.specs.Comparison.{is_plain};
 ghost use Rattle.tpl_drawn.specs.Marks.{children_in};
 ghost use Rattle.tpl_drawn.specs.Walks.{where_listed};
 ghost use Rattle.tpl_model.specs.ShownNodes.Shapes.{all_shown, child_of};
 
+use page_tree::Tree;
 use sig_base::NoMemory;
+use std::alloc::Global;
 use tpl_blocks::Block;
 use tpl_model::{Child, Shown};
 
@@ -22,6 +24,26 @@ pub fn is_plain(lines: &Block) -> bool
         Block::Each(_, _, _) => false,
         Block::Attempt(_, _, _) => false,
     }
+}
+
+/// Room for the next children of a node, as many as it has, where they are listed.
+///
+/// # Errors
+///
+/// `NoMemory` alone.
+pub fn room_for(
+    alloc: Global,
+    listed: bool,
+    tree: &Tree,
+    number: u64,
+) -> Result<Vec<Child>, NoMemory>
+    ensures { IfOk result (λ v. v.items ≡ []) }
+{
+    if !listed {
+        return Ok(Vec::new(alloc));
+    }
+    let children = Vec::with_capacity(alloc, tree.children(number).len())?;
+    Ok(children)
 }
 
 // Appends children.

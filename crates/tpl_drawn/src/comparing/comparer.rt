@@ -18,6 +18,7 @@ ghost use Rattle.tpl_model.specs.declared.mark.Mark.{Mark as AMark};
 ghost use Rattle.tpl_model.specs.PageUpdates.PageMemos.{values};
 ghost use Rattle.tpl_drawn.specs.Walks.{as_listed, further, of_element, of_first, of_inside, of_lines, of_marks, of_rows, or_stays, walk_of, where_gone};
 
+use crate::comparing::children::room_for;
 use crate::comparing::keeping::{first_keeps, keeps_nodes};
 use crate::comparing::kept::{put_if_listed, put_kept};
 use crate::comparing::node_marks::{Compared, put_made, put_part, put_text_again};
@@ -103,7 +104,7 @@ fn compare_inside(
         return Ok(());
     }
     let keeps = first_keeps(inner, inside);
-    let mut children = Vec::new(alloc);
+    let mut children = room_for(alloc, !keeps, &page.tree, number)?;
     compare_first(
         alloc,
         !keeps,
@@ -265,6 +266,10 @@ fn compare_row(
         put_if_listed(alloc, listed, Some(key), inner, memo, page, children)?;
         return Ok(());
     };
+    if is_stays(change) {
+        put_if_listed(alloc, listed, Some(key), inner, memo, page, children)?;
+        return Ok(());
+    }
     compare_lines(
         alloc,
         listed,
@@ -472,7 +477,7 @@ fn all_compared(
         restated: Vec::new(alloc),
     };
     let keeps = keeps_nodes(lines, change);
-    let mut children = Vec::new(alloc);
+    let mut children = room_for(alloc, !keeps, &page.tree, 0)?;
     compare_lines(
         alloc,
         !keeps,

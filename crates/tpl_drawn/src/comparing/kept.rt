@@ -23,7 +23,7 @@ use sig_base::{NoMemory, Row, Text};
 use sig_formula::Formula;
 use std::alloc::Global;
 use tpl_blocks::Block;
-use tpl_model::{Address, Child, PageMemo};
+use tpl_model::{Child, PageMemo};
 
 /// Appends a text that stays as a child, where children are listed.
 ///
@@ -46,8 +46,7 @@ pub fn put_staying_text(
     if !listed {
         return Ok(());
     }
-    let address = Address::new(line, key)?;
-    let Some(number) = page.number(&address) else {
+    let Some(number) = page.number_of(line, key)? else {
         let mut shown = Vec::new(alloc);
         put_text(alloc, line, key, memo, &mut shown)?;
         put_new(shown, children)?;
@@ -81,11 +80,11 @@ pub fn put_kept(
         (label.Element name.now (values (waiting attributes.now) (attributes_of (kept memo.now))))
         (nodes (option_copied key.entry) (block inner.now) (inside_of (kept memo.now))) none))) }
 {
-    let address = Address::new(line, key)?;
+    let number = page.number_of(line, key)?;
     if !listed {
-        return Ok(page.number(&address));
+        return Ok(number);
     }
-    let Some(number) = page.number(&address) else {
+    let Some(number) = number else {
         let mut shown = Vec::new(alloc);
         put_element(alloc, line, key, name, attributes, inner, memo, &mut shown)?;
         put_new(shown, children)?;

@@ -1,11 +1,13 @@
 // The nodes of a page that stands.
-ghost use Rattle.std.specs.Prelude.{◌≡◌, None, if◌then◌else◌};
+ghost use Rattle.std.specs.Prelude.{◌≡◌, None, if◌then◌else◌, IfOk};
+ghost use Rattle.std.specs.Option.{option_copied};
 ghost use Rattle.page_model.specs.Replay.{below_root};
-ghost use Rattle.tpl_drawn.specs.Addresses.{number_on};
+ghost use Rattle.tpl_drawn.specs.Addresses.{address_at, if_there, number_on};
 ghost use Rattle.tpl_drawn.specs.Lines.{line_at};
 
 use crate::marks::numbers::Numbers;
 use page_tree::Tree;
+use sig_base::{NoMemory, Text};
 use tpl_model::Address;
 
 /// A page's nodes: their tree, the numbers that were noted of addresses, and the next unused number.
@@ -26,15 +28,27 @@ impl Drop for PageNodes {
 }
 
 impl PageNodes {
-    /// The number of the node of an address; none where no node of the page has it.
-    pub fn number(&self, address: &Address) -> Option<u64>
-        ensures { result ≡ number_on self.now address.now }
+    // A number, where a node of the page has it.
+    fn if_there(&self, noted: Option<u64>) -> Option<u64>
+        ensures { result ≡ if_there self.now.tree noted }
     {
-        let number = self.numbers.number(address)?;
+        let number = noted?;
         self.tree.child_count(number)?;
         Some(number)
     }
-    /// The same number, looked for at a place of those that were noted first: that of an address noted behind it is looked for at the next place.
+    /// The number of the node of a line, in the row of that key; none where no node of the page has that address.
+    ///
+    /// # Errors
+    ///
+    /// `NoMemory` alone.
+    pub(crate) fn number_of(&self, line: usize, key: Option<&Text>) -> Result<Option<u64>, NoMemory>
+        ensures { IfOk result (λ n. n ≡ number_on self.now (address_at line (option_copied key.entry))) }
+    {
+        let noted = self.numbers.number_of(line, key)?;
+        Ok(self.if_there(noted))
+    }
+    /// The number of the node of an address; none where no node of the page has it. It is looked for at a place of those that were noted first: that of an
+    /// address noted behind it is looked for at the next place.
     pub(crate) fn number_near(&self, near: &mut usize, address: &Address) -> Option<u64>
         ensures { result ≡ number_on self.now address.now }
     {

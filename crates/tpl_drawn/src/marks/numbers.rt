@@ -1,18 +1,20 @@
 // The numbers of a page's nodes by their addresses.
 ghost use Rattle.std.specs.Prelude.{◌≡◌, ◌≤◌, ◌<◌, ℕ, ◌+◌, ◌/◌, ◌^◌, ltb, ◌∷◌, ◌++◌, None, Some, drop, if◌then◌else◌, length, map, IfOk, IfSome, OnOk};
+ghost use Rattle.std.specs.Option.{option_copied};
 ghost use Rattle.indexmap.specs.IndexMap.{index_map_len};
 ghost use Rattle.page_model.specs.Forest.{Forest, keys, tally};
 ghost use Rattle.page_model.specs.Labels.{Look};
 ghost use Rattle.page_model.specs.Pages.{by_number};
-ghost use Rattle.tpl_model.specs.ShownNodes.Addresses.{address_of, same_address};
+ghost use Rattle.tpl_model.specs.ShownNodes.Addresses.{address_of, same_address, same_key};
 ghost use Rattle.tpl_model.specs.ShownNodes.Shapes.{all_shown, shown_tree};
 ghost use Rattle.tpl_model.specs.declared.shown.Address.{Address as AnAddress};
-ghost use Rattle.tpl_drawn.specs.Addresses.{noted_from, number_at, number_in, AreNumbersOf};
+ghost use Rattle.tpl_drawn.specs.Addresses.{address_at, noted_from, number_at, number_in, AreNumbersOf};
 ghost use Rattle.tpl_drawn.specs.Lines.{line_at, lined, lined_from};
 
+use crate::marks::guess::Guess;
 use crate::marks::lines::{lines_under, note_lines};
 use indexmap::IndexMap;
-use sig_base::NoMemory;
+use sig_base::{NoMemory, Text};
 use std::alloc::Global;
 use tpl_model::{Address, Shown};
 
@@ -71,12 +73,31 @@ fn note_numbers(
     Ok(())
 }
 
+// Whether a key is the other, or there is none.
+fn is_key(noted: &Option<Text>, key: Option<&Text>) -> bool
+    ensures { result ≡ same_key noted.now (option_copied key.entry) }
+{
+    match (noted, key) {
+        (None, None) => true,
+        (Some(noted), Some(key)) => noted == key,
+        _ => false,
+    }
+}
+
+// Whether an address is that of a line in the row of that key.
+fn is_of(noted: &Address, line: usize, key: Option<&Text>) -> bool
+    ensures { result ≡ same_address noted.now (address_at line (option_copied key.entry)) }
+{
+    noted.line == line && is_key(&noted.key, key)
+}
+
 /// The numbers that were noted of addresses, and the line of each: those of each node of a page, and of some that are gone, until they are read
 /// off anew.
 pub struct Numbers {
     all: IndexMap<Address, u64>,
     lines: IndexMap<u64, usize>,
     read: usize,
+    guess: Guess,
 }
 
 impl Drop for Numbers {
@@ -85,6 +106,7 @@ impl Drop for Numbers {
             all: _,
             lines: _,
             read: _,
+            guess: _,
         } = self;
     }
 }
@@ -111,7 +133,13 @@ impl Numbers {
             at += 1;
         }
         let read = all.len();
-        Ok(Numbers { all, lines, read })
+        let guess = Guess::of(alloc, read)?;
+        Ok(Numbers {
+            all,
+            lines,
+            read,
+            guess,
+        })
     }
 
     /// Notes these addresses under the numbers from this one on, one after the other; one that was noted has its new number then.
@@ -124,6 +152,7 @@ impl Numbers {
         ensures lines { OnOk result ((k : ℕ) → line_at self.new k ≡ lined_from addresses.items from (line_at self.old) k) }
         ensures numbers { OnOk result ((a : AnAddress) → number_at self.new a ≡ noted_from addresses.items from (number_at self.old) a) }
     {
+        self.guess.grow(addresses.len())?;
         note_lines(&mut self.lines, &addresses, from)?;
         note_numbers(&mut self.all, addresses, from)?;
         Ok(())
@@ -136,11 +165,40 @@ impl Numbers {
         self.read < self.all.len() / 2
     }
 
-    /// The number that was noted of an address.
-    pub fn number(&self, address: &Address) -> Option<u64>
+    /// The number that was noted of a line in the row of that key. Where it stands at the likely place, it isn't searched for.
+    ///
+    /// # Errors
+    ///
+    /// `NoMemory` alone.
+    pub(crate) fn number_of(&self, line: usize, key: Option<&Text>) -> Result<Option<u64>, NoMemory>
+        ensures { IfOk result (λ n. n ≡ number_at self.now (address_at line (option_copied key.entry))) }
+    {
+        let likely = self.guess.place();
+        if let Some(number) = self.number_likely(likely, line, key) {
+            self.guess.stood(likely);
+            return Ok(Some(number));
+        }
+        let address = Address::new(line, key)?;
+        Ok(self.number_found(&address))
+    }
+    // The number that was noted of a line in the row of that key, looked for at one place alone.
+    #[tactic(auto, using(crate::proofs::Numbered::Addresses::number_same))]
+    fn number_likely(&self, place: usize, line: usize, key: Option<&Text>) -> Option<u64>
+        ensures { IfSome result (λ n. number_at self.now (address_at line (option_copied key.entry)) ≡ Some n) }
+    {
+        let (noted, number) = self.all.get_index(place)?;
+        if is_of(noted, line, key) {
+            return Some(*number);
+        }
+        None
+    }
+    // The number that was noted of an address, searched for.
+    fn number_found(&self, address: &Address) -> Option<u64>
         ensures { result ≡ number_at self.now address.now }
     {
-        self.all.get(address).copied()
+        let (place, _, number) = self.all.get_full(address)?;
+        self.guess.found(place);
+        Some(*number)
     }
     // The number that was noted of an address, looked for at one place alone.
     #[tactic(auto, using(crate::proofs::Numbered::Addresses::number_same))]

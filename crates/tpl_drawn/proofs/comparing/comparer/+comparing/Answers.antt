@@ -16,7 +16,7 @@ use Rattle.tpl_model.specs.PageUpdates.PageMemos.{nodes, values}
 use Rattle.tpl_drawn.specs.Walks.{as_listed, further, of_lines, of_rows, of_tried, or_stays, walk_of, where_gone}
 use Rattle.tpl_drawn.proofs.Compares.Rows.{all_left, item_at, left_of, one_left, past, rows_gone, told_at}
 use Rattle.tpl_drawn.proofs.Shaped.Behind.{behind}
-use Rattle.tpl_drawn.proofs.Compares.Walks.{alone_listed, branch_off, branch_on, element_goes, element_quiet, first_gone, first_none, first_some, inside_goes, inside_keeps, inside_stays, kept_goes, kept_same, made_gone, none_gone, none_listed, parts_gone, put_staying_gone, stays_gone, unfit_gone, unknown_element}
+use Rattle.tpl_drawn.proofs.Compares.Walks.{alone_listed, branch_off, branch_on, element_goes, element_quiet, first_gone, first_none, first_some, inside_goes, inside_keeps, inside_stays, kept_goes, kept_same, made_gone, none_gone, none_listed, parts_gone, put_staying_gone, stays_alone, stays_gone, unfit_gone, unknown_element}
 use Rattle.tpl_drawn.proofs.comparing.comparer.+comparing.Goals as goal
 
 -- ---- the first of some parts
@@ -54,7 +54,7 @@ compare_inside-returns-then-keeps u c = λ known k.
     (sym c.first_keeps-keeps.ensures ∙ c.if-keeps.true)
     (c.in_ok-compare_first.ensures known k
     ∙ ap (λ z. further (walk_of z c.args.out.now) (as_listed (not c.first_keeps-keeps.result) (of_lines known (option_copied c.args.key) (block c.args.inner.now)
-    (kept c.args.memo.now) (first_in (chain (map changed c.args.inside.now)))))) c.new-children.ensures.items)
+    (kept c.args.memo.now) (first_in (chain (map changed c.args.inside.now)))))) c.in_ok-children.ensures)
     refl refl refl refl
 
 pub compare_inside-returns : goal.compare_inside-returns
@@ -65,10 +65,10 @@ compare_inside-returns u c = λ known k.
     (record { children = []; touched = map mark_of c.push.new.self.items; restated = map mark_of out.restated.items })
     (sym c.first_keeps-keeps.ensures ∙ c.if-keeps.false)
     (c.in_ok-compare_first.ensures known k
-    ∙ ap (λ b. further (walk_of c.new-children.result.items c.args.out.now) (as_listed (not b) (of_lines known (option_copied c.args.key) (block c.args.inner.now)
+    ∙ ap (λ b. further (walk_of c.in_ok-children.children.items c.args.out.now) (as_listed (not b) (of_lines known (option_copied c.args.key) (block c.args.inner.now)
     (kept c.args.memo.now) (first_in (chain (map changed c.args.inside.now)))))) c.if-keeps.false
     ∙ ap (λ z. further (walk_of z c.args.out.now) (of_lines known (option_copied c.args.key) (block c.args.inner.now) (kept c.args.memo.now)
-    (first_in (chain (map changed c.args.inside.now))))) c.new-children.ensures.items)
+    (first_in (chain (map changed c.args.inside.now))))) c.in_ok-children.ensures)
     refl refl (ap (map mark_of) c.in_ok-push.ensures.items ∙ map-append mark_of out.touched.items _) refl
 
 pub compare_kept-returns-then-same : goal.compare_kept-returns-then-same
@@ -145,6 +145,17 @@ compare_row-returns-in_default u c = λ known k.
     (c.in_ok-put_if_listed.ensures known k)
     ∙ ap (λ z. further (walk_of c.args.children.now.items c.args.out.now) (as_listed c.args.listed (of_lines known (Some c.args.key.now) (block c.args.inner.now)
     (kept c.args.memo.now) (or_stays (option_copied z))))) (sym c.in_default.is)
+
+pub compare_row-returns-then-is_stays : goal.compare_row-returns-then-is_stays
+compare_row-returns-then-is_stays u c = λ known k.
+    let w = walk_of c.args.children.now.items c.args.out.now in
+    let key = Some c.args.key.now in
+    let m = kept c.args.memo.now in
+    put_staying_gone (map child_of c.args.children.now.items) (map child_of c.put_if_listed-then-is_stays.new.children.items) w _
+    (alone_listed c.args.listed _ _ (stays_gone known key (block c.args.inner.now) m)) refl (c.in_ok-put_if_listed-2.ensures known k)
+    ∙ (ap (λ z. further w (as_listed c.args.listed (of_lines known key (block c.args.inner.now) m z)))
+    (sym (stays_alone (changed c.in-Some.change.now) (sym c.is_stays.ensures ∙ c.if-is_stays.true)))
+    ∙ ap (λ z. further w (as_listed c.args.listed (of_lines known key (block c.args.inner.now) m (or_stays (option_copied z))))) (sym c.in-Some.is))
 
 pub compare_row-returns : goal.compare_row-returns
 compare_row-returns u c = λ known k.

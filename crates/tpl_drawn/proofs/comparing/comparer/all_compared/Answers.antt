@@ -15,7 +15,7 @@ returns-clause-touched c = λ known k.
     let out = c.compare_lines.new.out in
     let e = c.in_ok-compare_lines.ensures known k in
     let children : map child_of c.compare_lines.new.children.items ≡ w.children =
-    ap (λ z. z.children) e ∙ (ap (λ z. map child_of z ++ where_listed (not c.keeps_nodes-keeps.result) w.children) c.new-children.ensures.items
+    ap (λ z. z.children) e ∙ (ap (λ z. map child_of z ++ where_listed (not c.keeps_nodes-keeps.result) w.children) c.in_ok-children.ensures
     ∙ ap (λ b. where_listed (not b) w.children) c.if-keeps.false) in
     let touched : map mark_of out.touched.items ≡ w.touched = ap (λ z. z.touched) e ∙ ap (λ z. map mark_of z ++ w.touched) c.new.ensures.items in
     ap (map mark_of) c.in_ok-push.ensures.items
