@@ -9,6 +9,7 @@ mod Matched
 mod Survivors
 mod Operated
 mod Planned
+mod Staying
 mod Followed
 mod Lined
 mod Carried

@@ -1,5 +1,5 @@
 -- The operations that bring a page up to date, as they are read from the tree that stands by the marks of the nodes that are compared.
-use Rattle.std.specs.Prelude.{◌≡◌, ◌==◌, ◌&&◌, ℕ, Bool, List, [], ◌∷◌, ◌++◌, length, map, nat_eq, if◌then◌else◌, Option}
+use Rattle.std.specs.Prelude.{◌≡◌, ◌==◌, ◌&&◌, ℕ, Bool, false, Some, None, List, [], ◌∷◌, ◌++◌, length, map, nat_eq, if◌then◌else◌, Option}
 use lib.Pointwise.{pointwise}
 use Rattle.std.specs.List.{flat_map}
 use Rattle.page_model.specs.Edits.{ascending, listed, siblings}
@@ -35,6 +35,16 @@ numbers_staying cs = flat_map number_staying cs
 -- those of the children of marked nodes
 abbrev pub children_staying : List Marked → List ℕ
 children_staying ms = flat_map (λ (m : Marked). numbers_staying m.children) ms
+
+-- whether a child stays under the number, where there is one
+abbrev pub stays_at : Next → Option ℕ → Bool
+stays_at (stays n) (Some m) = n == m
+stays_at (stays n) None = false
+stays_at (comes t) o = false
+
+-- whether children all stay, under these numbers and no others
+abbrev pub stay_as : List Next → List ℕ → Bool
+stay_as cs ns = (length (numbers_staying cs) == length cs) && pointwise nat_eq (numbers_staying cs) ns
 
 -- whether the next children of a marked node are those that it has
 abbrev pub keeps_children : Forest Kind → Marked → Bool

@@ -1,5 +1,5 @@
 // How a page comes up to date: the numbers of its nodes, and the operations that lead to the next tree, all read from the tree that stands.
-ghost use Rattle.std.specs.Prelude.{◌≡◌, ◌<◌, ◌^◌, ◌+◌, ◌++◌, ◌∷◌, [], length, map, IfOk, OnOk};
+ghost use Rattle.std.specs.Prelude.{◌≡◌, ◌<◌, ◌^◌, ◌+◌, ◌++◌, ◌∷◌, [], length, map, slice_get, IfOk, OnOk};
 ghost use Rattle.page_model.specs.Forest.{Forest, keys, node, none};
 ghost use Rattle.page_model.specs.Labels.{Kind, Root};
 ghost use Rattle.page_model.specs.Pages.{NumberedPage, IsPage, new_order, page_shape, renumbered, tree_of};
@@ -15,7 +15,7 @@ ghost use Rattle.tpl_patch.specs.Moves.{AllFit, AllSound, number_behind};
 ghost use Rattle.tpl_model.specs.ShownNodes.Addresses.{address_of};
 ghost use Rattle.tpl_model.specs.ShownNodes.Shapes.{all_shown, child_of, mark_of};
 ghost use Rattle.tpl_live.specs.Pages.{lines_shape, shown_in, AreKnown, AreLined};
-ghost use Rattle.tpl_live.specs.Plans.{children_staying, number_staying, keeps_children, moving, numbers_of as numbers_in, numbers_staying, ops_towards, AllBring, CanCompare, Carries, Compares, LeadOn};
+ghost use Rattle.tpl_live.specs.Plans.{children_staying, number_staying, keeps_children, moving, numbers_of as numbers_in, numbers_staying, ops_towards, stay_as, stays_at, AllBring, CanCompare, Carries, Compares, LeadOn};
 
 use page_ops::{Op, perform};
 use page_tree::Tree;
@@ -136,23 +136,50 @@ fn staying(alloc: Global, marks: &[Mark]) -> Result<Vec<u64>, NoMemory>
     Ok(numbers)
 }
 
-// Whether the next children of a marked node are those that it has.
-fn keeps_children(alloc: Global, tree: &Tree, mark: &Mark) -> Result<bool, NoMemory>
-    ensures { IfOk result (λ b. b ≡ keeps_children tree.now (mark_of mark.now)) }
+// The number at a place.
+fn number_there(numbers: &[u64], place: usize) -> Option<u64>
+    ensures { result ≡ slice_get numbers.now place }
 {
-    let mut numbers = Vec::new(alloc);
-    put_all_staying(&mark.children, &mut numbers)?;
-    if numbers.len() == mark.children.len() {
-        return Ok(numbers.as_slice() == tree.children(mark.number));
+    numbers.get(place).copied()
+}
+
+// Whether a child stays under this number.
+fn stays_at(child: &Child, number: Option<u64>) -> bool
+    ensures { result ≡ stays_at (child_of child.now) number }
+{
+    match child {
+        Child::Kept(kept) => match number {
+            Some(number) => *kept == number,
+            None => false,
+        },
+        Child::New(_) => false,
     }
-    Ok(false)
+}
+
+// Whether children all stay, under these numbers and no others.
+fn stay_as(children: &[Child], numbers: &[u64]) -> bool
+    ensures { result ≡ stay_as (map child_of children.now) numbers.now }
+{
+    for (place, child) in children.iter().enumerate() {
+        if !stays_at(child, number_there(numbers, place)) {
+            return false;
+        }
+    }
+    number_there(numbers, children.len()).is_none()
+}
+
+// Whether the next children of a marked node are those that it has.
+fn keeps_children(tree: &Tree, mark: &Mark) -> bool
+    ensures { result ≡ keeps_children tree.now (mark_of mark.now) }
+{
+    stay_as(&mark.children, tree.children(mark.number))
 }
 
 // Appends a mark unless the node keeps its children.
-fn put_moving(alloc: Global, tree: &Tree, mark: Mark, out: &mut Vec<Mark>) -> Result<(), NoMemory>
+fn put_moving(tree: &Tree, mark: Mark, out: &mut Vec<Mark>) -> Result<(), NoMemory>
     ensures { OnOk result (map mark_of out.new.items ≡ map mark_of out.old.items ++ moving tree.now (mark_of mark ∷ [])) }
 {
-    if keeps_children(alloc, tree, &mark)? {
+    if keeps_children(tree, &mark) {
         return Ok(());
     }
     out.push(mark)?;
@@ -165,7 +192,7 @@ fn moving(alloc: Global, tree: &Tree, marks: Vec<Mark>) -> Result<Vec<Mark>, NoM
 {
     let mut left = Vec::new(alloc);
     for mark in marks {
-        put_moving(alloc, tree, mark, &mut left)?;
+        put_moving(tree, mark, &mut left)?;
     }
     Ok(left)
 }
