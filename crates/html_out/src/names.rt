@@ -10,7 +10,7 @@ pub fn is_void(name: &str) -> bool
     ensures { result ≡ is_void name.now }
 {
     match name.len() {
-        2 => matches!(name, "br" | "hr"),
+        2 => matches!(name.as_bytes(), b"br" | b"hr"),
         3 => matches!(name, "col" | "img" | "wbr"),
         4 => matches!(name, "area" | "base" | "link" | "meta"),
         5 => matches!(name, "embed" | "input" | "track" | "frame" | "param"),

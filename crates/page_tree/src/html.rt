@@ -17,6 +17,16 @@ fn put(out: &mut Vec<u8>, bytes: &[u8]) -> Result<(), NoMemory>
     Ok(())
 }
 
+// The same byte by byte, which takes less where they are few.
+fn put_few(out: &mut Vec<u8>, bytes: &[u8]) -> Result<(), NoMemory>
+    ensures { OnOk result (out.new.items ≡ out.old.items ++ bytes.now) }
+{
+    for byte in bytes {
+        out.push(*byte)?;
+    }
+    Ok(())
+}
+
 fn put_attributes(out: &mut Vec<u8>, attributes: &[(Text, Text)]) -> Result<(), NoMemory>
     ensures { OnOk result (out.new.items ≡ out.old.items ++ flat_map (λ (a : List ℕ × List ℕ). attribute a.0 a.1) attributes.now) }
 {
@@ -30,7 +40,7 @@ fn put_opening(out: &mut Vec<u8>, name: &str, attributes: &[(Text, Text)]) -> Re
     ensures { OnOk result (out.new.items ≡ out.old.items ++ opening name.now attributes.now) }
 {
     out.push(b'<')?;
-    put(out, name.as_bytes())?;
+    put_few(out, name.as_bytes())?;
     put_attributes(out, attributes)?;
     out.push(b'>')?;
     Ok(())
@@ -39,8 +49,9 @@ fn put_opening(out: &mut Vec<u8>, name: &str, attributes: &[(Text, Text)]) -> Re
 fn put_closing(out: &mut Vec<u8>, name: &str) -> Result<(), NoMemory>
     ensures { OnOk result (out.new.items ≡ out.old.items ++ closing name.now) }
 {
-    put(out, b"</")?;
-    put(out, name.as_bytes())?;
+    out.push(b'<')?;
+    out.push(b'/')?;
+    put_few(out, name.as_bytes())?;
     out.push(b'>')?;
     Ok(())
 }
