@@ -1,8 +1,9 @@
 -- Lists of marks.
-use Rattle.std.proofs.Common.{◌≡◌, ℕ, zero, suc, ◌+◌, ◌<◌, ◌≤◌, ◌==◌, ◌||◌, Bool, true, false, cond, List, [], ◌∷◌, ◌++◌, length, drop, refl, sym, ap, ◌∙◌, subst, arith, ◌⊎◌, inl, inr, Option, Some, None, is_some, append_assoc}
+use Rattle.std.proofs.Common.{◌≡◌, ℕ, zero, suc, ◌+◌, ◌<◌, ◌≤◌, ◌==◌, ◌||◌, Bool, true, false, cond, List, [], ◌∷◌, ◌++◌, length, drop, refl, sym, ap, ◌∙◌, subst, arith, ◌⊎◌, inl, inr, Option, Some, None, is_some, append_assoc, nat_lt}
 use Rattle.std.specs.Prelude.{slice_set, get_or}
 use Rattle.std.specs.List.{All}
 use Rattle.std.proofs.lemmas.Bool.{eqb-true, eq-eqb}
+use Rattle.std.proofs.lemmas.Bool.Decides.{nat_tests}
 use Rattle.signal_model.specs.Signals.{is_in}
 use Rattle.sig_marks.specs.Tables.{Reached, Spreads, dependants_at, first, marked_at, next}
 use Rattle.sig_store.specs.Stored.{entry}
@@ -303,3 +304,17 @@ pub mark_past : (t : List Bool) (n : ℕ) → length t ≤ n → false ≡ marke
 mark_past [] n l = refl
 mark_past (x ∷ xs) zero l = absurd (omega arith)
 mark_past (x ∷ xs) (suc n) l = let k : length xs ≤ n = omega arith in mark_past xs n k
+
+-- what stands has its mark
+pub marks_there : (ms : List (Option Bool)) (i : ℕ) (b : Bool) → entry ms i ≡ Some b → b ≡ marked_at (marks_of ms) i
+marks_there [] i b h = cc
+marks_there (m ∷ ms) zero b h = sym (ap mark_in h)
+marks_there (m ∷ ms) (suc i) b h = marks_there ms i b h
+
+-- of what doesn't stand, what was given is marked
+pub marks_none : (ms : List (Option Bool)) (i : ℕ) → entry ms i ≡ None → nat_lt i (length ms) ≡ marked_at (marks_of ms) i
+marks_none ms i h = go (nat_lt i (length ms)) refl
+  where
+    go : (b : Bool) → nat_lt i (length ms) ≡ b → b ≡ marked_at (marks_of ms) i
+    go true e = let l : i < length ms = grind (arith, nat_tests, e) in sym (marks_at ms i None l h)
+    go false e = let l : length ms ≤ i = grind (arith, nat_tests, e) in mark_past (marks_of ms) i (omega (arith, l, marks_len ms))

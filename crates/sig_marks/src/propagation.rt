@@ -13,12 +13,9 @@ use sig_store::Store;
 pub(crate) fn is_marked_in(marked: &Store<bool>, id: u128) -> bool
     ensures { result ≡ marked_at (marks_of marked.now.entries) id }
 {
-    if id >= marked.made() {
-        return false;
-    }
     match marked.get(id) {
         Some(mark) => *mark,
-        None => true,
+        None => id < marked.made(),
     }
 }
 
