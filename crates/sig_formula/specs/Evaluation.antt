@@ -236,3 +236,9 @@ keep_step tracking t b ts us = kept_from (λ n. formula_step tracking b (row_at 
 -- the answer of a formula where nothing is tracked apart, by the row that it speaks of and the values of slots that are known
 abbrev pub answer_of : Tree → Option RowRef → List Known → Step
 answer_of t row known = plain_step (formula_step false t row known [])
+
+-- a step by the slot that is asked for; where none is, by what a formula comes to
+abbrev pub step_by : Option ℕ → Outcome → Step
+step_by (Some n) o = Read n
+step_by None (Good v) = Done v
+step_by None (Bad e) = Fail e

@@ -1,11 +1,11 @@
 // What a formula answers to what was read so far.
-ghost use Rattle.std.specs.Prelude.{◌≡◌, ◌<◌, length, IfOk, IfSome};
+ghost use Rattle.std.specs.Prelude.{◌≡◌, ◌<◌, length, None, IfOk, IfSome};
 ghost use Rattle.std.specs.Option.{option_copied};
-ghost use Rattle.sig_formula.specs.Evaluation.{answer_of, formula_step, known_at, served};
+ghost use Rattle.sig_formula.specs.Evaluation.{answer_of, formula_step, known_at, served, step_by};
 ghost use Rattle.sig_formula.specs.Trees.{tree};
 
 use crate::{Formula, Paused, RowRef};
-use sig_base::{Known, NoMemory, Outcome, Step, Value};
+use sig_base::{Fault, Known, NoMemory, Outcome, Step, Value};
 use std::alloc::Global;
 
 /// What a formula answers: the first slot that it needs and doesn't know, and whether that read is tracked; or what it comes to.
@@ -63,6 +63,16 @@ pub fn formula_step(
     Ok(step)
 }
 
+// The step of a formula that comes to this.
+fn ended(outcome: Outcome) -> Step
+    ensures { result ≡ step_by None outcome }
+{
+    match outcome {
+        Outcome::Good(value) => Step::Done(value),
+        Outcome::Bad(fault) => Step::Fail(fault),
+    }
+}
+
 /// The same where nothing is tracked apart: what a formula answers to the values known so far.
 pub fn step(
     alloc: Global,
@@ -74,6 +84,9 @@ pub fn step(
     ensures { IfOk result (λ s. s ≡ answer_of (tree f.now) (option_copied row.entry) known.now) }
 {
     let mut paused = Paused::new(alloc, f)?;
-    let step = paused.advance(alloc, f, row, known)?;
-    Ok(step)
+    let mut outcome = Outcome::Bad(Fault::Kind);
+    match paused.advance(alloc, f, row, known, &mut outcome)? {
+        Some(slot) => Ok(Step::Read(slot)),
+        None => Ok(ended(outcome)),
+    }
 }

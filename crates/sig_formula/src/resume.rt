@@ -3,7 +3,7 @@ ghost use Rattle.std.specs.Prelude.{◌≡◌, ◌<◌, [], length, true, List, 
 ghost use Rattle.std.specs.Option.{option_copied};
 ghost use Rattle.sig_base.specs.declared.value.Known.{Known};
 ghost use Rattle.sig_formula.specs.declared.formula.RowRef.{RowRef};
-ghost use Rattle.sig_formula.specs.Evaluation.{answer_of, formula_step};
+ghost use Rattle.sig_formula.specs.Evaluation.{answer_of, formula_step, step_by};
 ghost use Rattle.sig_formula.specs.Programs.{code};
 ghost use Rattle.sig_formula.specs.Machines.{IsPaused, IsReached, begun, is_asked, next_by, stepped};
 ghost use Rattle.sig_formula.specs.Trees.{Tree, tree};
@@ -12,7 +12,7 @@ use crate::evaluate::served;
 use crate::machine::Machine;
 use crate::program::{Instruction, place, put};
 use crate::{Formula, FormulaStep, RowRef};
-use sig_base::{Fault, Known, NoMemory, Outcome, Step};
+use sig_base::{Fault, Known, NoMemory, Outcome};
 use std::alloc::Global;
 use std::marker::Model;
 
@@ -139,8 +139,8 @@ impl Paused {
         self.rewind();
     }
 
-    /// Goes on with the evaluation of the formula and the row of the calls before, by values that begin with those of the call before: what
-    /// the formula answers to them.
+    /// Goes on with the evaluation of the formula and the row of the calls before, by values that begin with those of the call before: the
+    /// slot that it needs and that isn't known. Where there is none, what the formula comes to stands in `outcome`.
     ///
     /// # Errors
     ///
@@ -152,21 +152,19 @@ impl Paused {
         f: &Formula,
         row: Option<&RowRef>,
         known: &[Known],
-    ) -> Result<Step, NoMemory>
+        outcome: &mut Outcome,
+    ) -> Result<Option<u32>, NoMemory>
         requires row { IfSome row (λ r. r.now.place < length r.now.rows.rows) }
         requires paused { IsPaused self.old (tree f.now) (option_copied row) known.now }
-        ensures answer { IfOk result (λ s. s ≡ answer_of (tree f.now) (option_copied row.entry) known.now) }
+        ensures answer { IfOk result (λ o. step_by o outcome.new ≡ answer_of (tree f.now) (option_copied row.entry) known.now) }
         ensures paused { OnOk result (IsPaused self.new (tree f.now) (option_copied row.entry) known.now) }
     {
         match self.run(alloc, false, f, row, known, &[])? {
-            FormulaStep::Ask(slot, _) => Ok(Step::Read(slot)),
-            FormulaStep::End(Outcome::Good(value)) => {
+            FormulaStep::Ask(slot, _) => Ok(Some(slot)),
+            FormulaStep::End(end) => {
+                *outcome = end;
                 self.rewind();
-                Ok(Step::Done(value))
-            }
-            FormulaStep::End(Outcome::Bad(fault)) => {
-                self.rewind();
-                Ok(Step::Fail(fault))
+                Ok(None)
             }
         }
     }
