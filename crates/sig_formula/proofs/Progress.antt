@@ -4,11 +4,14 @@ use Rattle.std.specs.Option.{option_or}
 use Rattle.std.specs.Prelude.{slice_get}
 use Rattle.sig_base.specs.declared.value.Value.{Value}
 use Rattle.sig_base.specs.declared.value.Known.{Known}
+use Rattle.sig_base.specs.declared.value.Outcome.{Outcome}
+use Rattle.sig_base.specs.declared.value.Outcome.TheVariants.{Good, Bad}
 use Rattle.sig_formula.specs.declared.evaluate.FormulaStep.{FormulaStep}
+use Rattle.sig_formula.specs.declared.evaluate.FormulaStep.TheVariants.{End}
 use Rattle.sig_formula.specs.declared.formula.RowRef.{RowRef}
 use Rattle.sig_formula.specs.declared.program.Instruction.{Instruction}
 use Rattle.sig_formula.specs.declared.program.Instruction.TheVariants as job
-use Rattle.sig_formula.specs.Evaluation.{formula_step, known_at, served}
+use Rattle.sig_formula.specs.Evaluation.{formula_step, known_at, plain_step, served, step_by}
 use Rattle.sig_formula.specs.Programs.{code}
 use Rattle.sig_formula.specs.Machines.{Evaluation, IsPaused, IsReached, Machine, Next, over, on, before, begin, begun, executed_at, read, run, stepped, stepped_at}
 use Rattle.sig_formula.specs.Trees.{Tree}
@@ -175,3 +178,8 @@ more_is_paused p t row known more h = record {
   steps = h.steps;
   come = run_further p.program row known more h.steps (begin p.program) p.machine h.come;
 }
+
+-- what a formula comes to, told by its place
+pub end_told : (o : Outcome) → step_by None o ≡ plain_step (End o)
+end_told (Good v) = refl
+end_told (Bad e) = refl

@@ -5,5 +5,6 @@ pub mod Laws
 pub mod Marked
 pub mod Programs
 pub mod Machines
+pub mod Operations
 pub mod Stops
 pub mod Trees

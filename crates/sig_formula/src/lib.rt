@@ -1,6 +1,7 @@
 //! Formulas, and what they answer to the values known so far.
 #![tactic(auto)]
 
+mod at_once;
 mod copies;
 mod evaluate;
 mod formula;

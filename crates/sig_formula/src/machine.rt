@@ -37,6 +37,16 @@ impl Model for Machine {
     ghost view = { λ m. record { left = m.left; values = reverse m.values.items; rounds = reverse m.rounds.items } };
 }
 
+// Takes away what is there; mostly nothing is.
+fn empty<T: Drop>(list: &mut Vec<T>)
+    ensures { list.new.items ≡ [] }
+{
+    if list.is_empty() {
+        return;
+    }
+    list.clear();
+}
+
 impl Machine {
     /// With so many instructions left, and nothing evaluated.
     pub(crate) fn new(alloc: Global, left: usize) -> Machine
@@ -61,8 +71,8 @@ impl Machine {
         ensures { self.new ≡ record { left = left; values = []; rounds = [] } }
     {
         self.left = left;
-        self.values.clear();
-        self.rounds.clear();
+        empty(&mut self.values);
+        empty(&mut self.rounds);
     }
 
     // Goes on at a place.

@@ -174,8 +174,8 @@ pub fn calculation(op: BinOp, left: &Value, right: &Value) -> Outcome
     }
 }
 
-// What an operator makes of two operands; none where it writes them one after the other.
-fn outcome_of(op: BinOp, left: &Value, right: &Value) -> Option<Outcome>
+/// What an operator makes of two operands; none where it writes them one after the other.
+pub(crate) fn outcome_of(op: BinOp, left: &Value, right: &Value) -> Option<Outcome>
     ensures { MatchOption result (op ≡ BinOp.Join) (λ o. o ≡ operated op left.now right.now) }
 {
     match op {

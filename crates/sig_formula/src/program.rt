@@ -50,8 +50,8 @@ pub enum Instruction {
     Do(Act),
 }
 
-// Whether the left operand can decide alone.
-fn decides(op: BinOp) -> bool
+/// Whether the left operand can decide alone.
+pub(crate) fn decides(op: BinOp) -> bool
     ensures { result ≡ decides op }
 {
     match op {

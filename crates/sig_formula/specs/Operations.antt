@@ -1,0 +1,22 @@
+-- What is told at once of a formula of at most one operation.
+use Rattle.sig_base.specs.declared.value.Value.TheVariants as value
+use Rattle.sig_base.specs.declared.value.Outcome.{Outcome}
+use Rattle.sig_base.specs.declared.value.Outcome.TheVariants.{Good}
+use Rattle.sig_formula.specs.declared.at_once.AtOnce.{AtOnce}
+use Rattle.sig_formula.specs.declared.at_once.AtOnce.TheVariants as at_once
+use Rattle.sig_formula.specs.declared.at_once.Operand.{Operand}
+use Rattle.sig_formula.specs.declared.at_once.Operand.TheVariants as operand
+use Rattle.sig_formula.specs.declared.evaluate.FormulaStep.{FormulaStep}
+use Rattle.sig_formula.specs.declared.evaluate.FormulaStep.TheVariants.{Ask, End}
+
+-- the step that is told of a formula, by what it comes to; where nothing is told, it may be any
+abbrev pub told : AtOnce → Outcome → FormulaStep → FormulaStep
+told (at_once.Ask n tracked) o s = Ask n tracked
+told at_once.End o s = End o
+told at_once.Open o s = s
+
+-- the same of an operand
+abbrev pub operand_told : Operand → FormulaStep → FormulaStep
+operand_told (operand.Ask n tracked) s = Ask n tracked
+operand_told (operand.Number m) s = End (Good (value.Int m))
+operand_told operand.Open s = s

@@ -1,0 +1,135 @@
+// Formulas of at most one operation, which are answered without a list of instructions.
+ghost use Rattle.std.specs.Prelude.{◌≡◌, ◌<◌, false, length, Option, IfOk, IfSome};
+ghost use Rattle.std.specs.Option.{option_copied};
+ghost use Rattle.sig_base.specs.declared.value.Value.TheVariants as value;
+ghost use Rattle.sig_formula.specs.declared.evaluate.FormulaStep.TheVariants.{End};
+ghost use Rattle.sig_formula.specs.declared.formula.RowRef.{RowRef};
+ghost use Rattle.sig_formula.specs.Evaluation.{formula_step, operated};
+ghost use Rattle.sig_formula.specs.Operations.{operand_told, told};
+ghost use Rattle.sig_formula.specs.Programs.{decides};
+ghost use Rattle.sig_formula.specs.Trees.{binary, tree};
+
+use crate::evaluate::served;
+use crate::operate::outcome_of;
+use crate::program::decides;
+use crate::row::{field_outcome, key_outcome};
+use crate::{BinOp, Formula, RowRef};
+use sig_base::{Known, NoMemory, Outcome, Scalar, Value};
+
+/// What is told of a formula at once: the slot that it needs, with whether that read is tracked; that it ends; or nothing.
+#[derive(Clone, Copy)]
+pub(crate) enum AtOnce {
+    Ask(u32, bool),
+    End,
+    Open,
+}
+
+// The same of an operand that is a literal or a slot: the whole number that it is.
+#[derive(Clone, Copy)]
+enum Operand {
+    Ask(u32, bool),
+    Number(i64),
+    Open,
+}
+
+fn operand_of(tracking: bool, f: &Formula, tracked: &[Known], untracked: &[Known]) -> Operand
+    ensures { (row : Option RowRef) →
+        operand_told result (formula_step tracking (tree f.now) row tracked.now untracked.now) ≡ formula_step tracking (tree f.now) row tracked.now untracked.now }
+{
+    match f {
+        Formula::Lit(Scalar::Int(number)) => Operand::Number(*number),
+        Formula::Slot(slot) => match served(tracking, *slot, tracked, untracked) {
+            Some(Value::Int(number)) => Operand::Number(*number),
+            Some(_) => Operand::Open,
+            None => Operand::Ask(*slot, tracking),
+        },
+        _ => Operand::Open,
+    }
+}
+
+// What an operator makes of two whole numbers; nothing is told where it makes a text of them.
+fn operate_at_once(op: BinOp, left: i64, right: i64, outcome: &mut Outcome) -> AtOnce
+    ensures { told result outcome.new (End (operated op (value.Int left) (value.Int right))) ≡ End (operated op (value.Int left) (value.Int right)) }
+{
+    match outcome_of(op, &Value::Int(left), &Value::Int(right)) {
+        Some(made) => {
+            *outcome = made;
+            AtOnce::End
+        }
+        None => AtOnce::Open,
+    }
+}
+
+// An operator whose left operand doesn't decide, between operands that are literals or slots.
+fn operation_at_once(
+    tracking: bool,
+    op: BinOp,
+    left: &Formula,
+    right: &Formula,
+    tracked: &[Known],
+    untracked: &[Known],
+    outcome: &mut Outcome,
+) -> AtOnce
+    requires { decides op ≡ false }
+    ensures { (row : Option RowRef) →
+        told result outcome.new (formula_step tracking (binary op (tree left.now) (tree right.now)) row tracked.now untracked.now)
+        ≡ formula_step tracking (binary op (tree left.now) (tree right.now)) row tracked.now untracked.now }
+{
+    match operand_of(tracking, left, tracked, untracked) {
+        Operand::Number(first) => match operand_of(tracking, right, tracked, untracked) {
+            Operand::Number(second) => operate_at_once(op, first, second, outcome),
+            Operand::Ask(slot, tracked) => AtOnce::Ask(slot, tracked),
+            Operand::Open => AtOnce::Open,
+        },
+        Operand::Ask(slot, tracked) => AtOnce::Ask(slot, tracked),
+        Operand::Open => AtOnce::Open,
+    }
+}
+
+/// What a formula answers, where it is a literal, a slot, a part of the row, or an operation between whole numbers that are literals or
+/// slots; what it comes to stands in `outcome`.
+///
+/// # Errors
+///
+/// `NoMemory` alone.
+pub(crate) fn answer_at_once(
+    tracking: bool,
+    f: &Formula,
+    row: Option<&RowRef>,
+    tracked: &[Known],
+    untracked: &[Known],
+    outcome: &mut Outcome,
+) -> Result<AtOnce, NoMemory>
+    requires { IfSome row (λ r. r.now.place < length r.now.rows.rows) }
+    ensures { IfOk result (λ a. told a outcome.new (formula_step tracking (tree f.now) (option_copied row.entry) tracked.now untracked.now)
+        ≡ formula_step tracking (tree f.now) (option_copied row.entry) tracked.now untracked.now) }
+{
+    match f {
+        Formula::Lit(scalar) => {
+            *outcome = Outcome::Good(Value::from(scalar.copy()?));
+            Ok(AtOnce::End)
+        }
+        Formula::Slot(slot) => {
+            let Some(value) = served(tracking, *slot, tracked, untracked) else {
+                return Ok(AtOnce::Ask(*slot, tracking));
+            };
+            *outcome = Outcome::Good(value.copy()?);
+            Ok(AtOnce::End)
+        }
+        Formula::It(field) => {
+            *outcome = field_outcome(field, row)?;
+            Ok(AtOnce::End)
+        }
+        Formula::ItKey => {
+            *outcome = key_outcome(row)?;
+            Ok(AtOnce::End)
+        }
+        Formula::Bin(op, left, right) => {
+            if decides(*op) {
+                return Ok(AtOnce::Open);
+            }
+            Ok(operation_at_once(tracking, *op, left, right, tracked, untracked, outcome))
+        }
+        _ => Ok(AtOnce::Open),
+    }
+}
