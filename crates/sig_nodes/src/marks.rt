@@ -1,11 +1,11 @@
 // What must run.
-ghost use Rattle.std.specs.Prelude.{◌≡◌, [], true, false, IfSome, IfNone, slice_get};
+ghost use Rattle.std.specs.Prelude.{◌≡◌, ℕ, [], true, false, IfSome, IfNone, slice_get};
 ghost use Rattle.signal_model.specs.Memos.{must_run_by, some_moved, sources_in};
 ghost use Rattle.sig_nodes.specs.Nodes.{body_at, has_differed, is_computed_body, memos_of, seat_at};
 ghost use Rattle.sig_nodes.specs.Places.{KeepsFound};
 ghost use Rattle.sig_nodes.specs.Search.{is_due_at, HasDue};
 
-use crate::bodies::{computation_at, differs};
+use crate::bodies::{computation_at, differs, seat_at};
 use crate::finds::Finds;
 use crate::node::{Body, Computation, Node};
 use crate::nodes::Nodes;
@@ -72,6 +72,14 @@ pub(crate) fn computed_seat(nodes: &Nodes, id: NodeId) -> Option<usize>
         Some(node) => seat_of(node),
         None => None,
     }
+}
+
+/// Whether a search has found that a computed, or something below it, must run.
+pub(crate) fn is_known_due(nodes: &Nodes, worn: u128, id: NodeId, finds: &Finds) -> bool
+    requires { is_computed_body (body_at nodes.now.items id) ≡ true }
+    ensures { result ≡ true → (g : ℕ) → KeepsFound nodes.now.items g worn finds.now → HasDue nodes.now.items g id }
+{
+    finds.is_found(worn, seat_at(nodes, id))
 }
 
 /// Whether it is told without a search that a computed, or something below it, must run: a search has found it, or it must run itself.

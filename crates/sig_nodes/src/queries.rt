@@ -9,7 +9,7 @@ ghost use Rattle.sig_nodes.specs.States.{is_computing, with_look, Becomes};
 use crate::answers::{Mark, Standing};
 use crate::evaluation::counted;
 use crate::graph::Graph;
-use crate::marks::is_due;
+use crate::marks::{is_due, is_known_due};
 use crate::search::finds_due;
 use crate::search_marks::unmark_reached;
 use sig_base::NodeId;
@@ -55,16 +55,15 @@ fn found(graph: &mut Graph, id: NodeId) -> Look
 }
 
 impl Graph {
-    // Whether a computed is clean. A search that found nothing that must run takes the marks of all that it went through, if it may.
-    fn has_clean_mark(&mut self, id: NodeId) -> bool
+    // Whether a search finds that a computed is clean. One that found nothing that must run takes the marks of all that it went through,
+    // if it may. It stands apart, so that what is told without it is told in few steps.
+    #[inline(never)]
+    fn is_searched_clean(&mut self, id: NodeId) -> bool
         requires { is_computed (standing self.old.state.signals id) ≡ true }
         ensures clean { result ≡ is_clean_mark (mark_of self.old.state.signals self.old.state.memos id) }
         ensures same { self.new ≡ self.old }
     {
         let _count = self.nodes.made();
-        if !self.marks.is_marked(id) {
-            return true;
-        }
         if finds_due(
             &self.nodes,
             self.generation,
@@ -84,6 +83,22 @@ impl Graph {
             self.reached.seats(),
         );
         true
+    }
+
+    // Whether a computed is clean: it isn't where a search has found it, it is where it isn't marked, and else a search tells.
+    fn has_clean_mark(&mut self, id: NodeId) -> bool
+        requires { is_computed (standing self.old.state.signals id) ≡ true }
+        ensures clean { result ≡ is_clean_mark (mark_of self.old.state.signals self.old.state.memos id) }
+        ensures same { self.new ≡ self.old }
+    {
+        let _count = self.nodes.made();
+        if is_known_due(&self.nodes, self.worn, id, &self.finds) {
+            return false;
+        }
+        if !self.marks.is_marked(id) {
+            return true;
+        }
+        self.is_searched_clean(id)
     }
 
     // The mark of a computed that isn't clean.
