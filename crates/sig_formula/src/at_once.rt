@@ -10,7 +10,7 @@ ghost use Rattle.sig_formula.specs.Programs.{decides};
 ghost use Rattle.sig_formula.specs.Trees.{binary, tree};
 
 use crate::evaluate::served;
-use crate::operate::outcome_of;
+use crate::operate::{difference, outcome_of, product, sum};
 use crate::program::decides;
 use crate::row::{field_outcome, key_outcome};
 use crate::{BinOp, Formula, RowRef};
@@ -48,7 +48,7 @@ fn operand_of(tracking: bool, f: &Formula, tracked: &[Known], untracked: &[Known
 }
 
 // What an operator makes of two whole numbers; nothing is told where it makes a text of them.
-fn operate_at_once(op: BinOp, left: i64, right: i64, outcome: &mut Outcome) -> AtOnce
+fn any_at_once(op: BinOp, left: i64, right: i64, outcome: &mut Outcome) -> AtOnce
     ensures { told result outcome.new (End (operated op (value.Int left) (value.Int right))) ≡ End (operated op (value.Int left) (value.Int right)) }
 {
     match outcome_of(op, &Value::Int(left), &Value::Int(right)) {
@@ -57,6 +57,27 @@ fn operate_at_once(op: BinOp, left: i64, right: i64, outcome: &mut Outcome) -> A
             AtOnce::End
         }
         None => AtOnce::Open,
+    }
+}
+
+// The same, with the commonest operators on their own.
+fn operate_at_once(op: BinOp, left: i64, right: i64, outcome: &mut Outcome) -> AtOnce
+    ensures { told result outcome.new (End (operated op (value.Int left) (value.Int right))) ≡ End (operated op (value.Int left) (value.Int right)) }
+{
+    match op {
+        BinOp::Add => {
+            *outcome = sum(left, right);
+            AtOnce::End
+        }
+        BinOp::Sub => {
+            *outcome = difference(left, right);
+            AtOnce::End
+        }
+        BinOp::Mul => {
+            *outcome = product(left, right);
+            AtOnce::End
+        }
+        _ => any_at_once(op, left, right, outcome),
     }
 }
 

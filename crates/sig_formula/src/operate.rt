@@ -107,7 +107,8 @@ fn joined_texts(alloc: Global, left: Value, right: Value) -> Result<Outcome, NoM
     text_outcome(alloc, text.as_str())
 }
 
-fn sum(m: i64, n: i64) -> Outcome
+/// The sum of two whole numbers.
+pub(crate) fn sum(m: i64, n: i64) -> Outcome
     ensures { result ≡ calculated BinOp.Add m n }
 {
     match m.checked_add(n) {
@@ -116,7 +117,8 @@ fn sum(m: i64, n: i64) -> Outcome
     }
 }
 
-fn difference(m: i64, n: i64) -> Outcome
+/// Their difference.
+pub(crate) fn difference(m: i64, n: i64) -> Outcome
     ensures { result ≡ calculated BinOp.Sub m n }
 {
     match m.checked_sub(n) {
@@ -125,7 +127,8 @@ fn difference(m: i64, n: i64) -> Outcome
     }
 }
 
-fn product(m: i64, n: i64) -> Outcome
+/// Their product.
+pub(crate) fn product(m: i64, n: i64) -> Outcome
     ensures { result ≡ calculated BinOp.Mul m n }
 {
     match m.checked_mul(n) {
