@@ -1,4 +1,4 @@
-// Formulas of at most one operation, which are answered without a list of instructions.
+// Formulas of few operations, which are answered without a list of instructions.
 ghost use Rattle.std.specs.Prelude.{◌≡◌, ◌<◌, false, length, Option, IfOk, IfSome};
 ghost use Rattle.std.specs.Option.{option_copied};
 ghost use Rattle.sig_base.specs.declared.value.Value.TheVariants as value;
@@ -24,7 +24,7 @@ pub(crate) enum AtOnce {
     Open,
 }
 
-// The same of an operand that is a literal or a slot: the whole number that it is.
+// The same of an operand: the whole number that it is.
 #[derive(Clone, Copy)]
 enum Operand {
     Ask(u32, bool),
@@ -32,7 +32,8 @@ enum Operand {
     Open,
 }
 
-fn operand_of(tracking: bool, f: &Formula, tracked: &[Known], untracked: &[Known]) -> Operand
+// An operand that is a literal or a slot.
+fn leaf_of(tracking: bool, f: &Formula, tracked: &[Known], untracked: &[Known]) -> Operand
     ensures { (row : Option RowRef) →
         operand_told result (formula_step tracking (tree f.now) row tracked.now untracked.now) ≡ formula_step tracking (tree f.now) row tracked.now untracked.now }
 {
@@ -44,6 +45,65 @@ fn operand_of(tracking: bool, f: &Formula, tracked: &[Known], untracked: &[Known
             None => Operand::Ask(*slot, tracking),
         },
         _ => Operand::Open,
+    }
+}
+
+// What a part comes to, where it is a whole number.
+fn number_in(outcome: Outcome) -> Operand
+    ensures { operand_told result (End outcome) ≡ End outcome }
+{
+    match outcome {
+        Outcome::Good(Value::Int(number)) => Operand::Number(number),
+        _ => Operand::Open,
+    }
+}
+
+// The whole number that an operator makes of two.
+fn number_of(op: BinOp, left: i64, right: i64) -> Operand
+    ensures { operand_told result (End (operated op (value.Int left) (value.Int right))) ≡ End (operated op (value.Int left) (value.Int right)) }
+{
+    match op {
+        BinOp::Add => number_in(sum(left, right)),
+        BinOp::Sub => number_in(difference(left, right)),
+        BinOp::Mul => number_in(product(left, right)),
+        _ => Operand::Open,
+    }
+}
+
+// One operation between two of these.
+fn part_of(
+    tracking: bool,
+    op: BinOp,
+    left: &Formula,
+    right: &Formula,
+    tracked: &[Known],
+    untracked: &[Known],
+) -> Operand
+    ensures { (row : Option RowRef) → operand_told result (formula_step tracking (binary op (tree left.now) (tree right.now)) row tracked.now untracked.now)
+        ≡ formula_step tracking (binary op (tree left.now) (tree right.now)) row tracked.now untracked.now }
+{
+    if decides(op) {
+        return Operand::Open;
+    }
+    match leaf_of(tracking, left, tracked, untracked) {
+        Operand::Number(first) => match leaf_of(tracking, right, tracked, untracked) {
+            Operand::Number(second) => number_of(op, first, second),
+            Operand::Ask(slot, tracked) => Operand::Ask(slot, tracked),
+            Operand::Open => Operand::Open,
+        },
+        Operand::Ask(slot, tracked) => Operand::Ask(slot, tracked),
+        Operand::Open => Operand::Open,
+    }
+}
+
+// An operand that is a literal or a slot, or one operation between two of them.
+fn operand_of(tracking: bool, f: &Formula, tracked: &[Known], untracked: &[Known]) -> Operand
+    ensures { (row : Option RowRef) →
+        operand_told result (formula_step tracking (tree f.now) row tracked.now untracked.now) ≡ formula_step tracking (tree f.now) row tracked.now untracked.now }
+{
+    match f {
+        Formula::Bin(op, left, right) => part_of(tracking, *op, left, right, tracked, untracked),
+        _ => leaf_of(tracking, f, tracked, untracked),
     }
 }
 
@@ -81,7 +141,7 @@ fn operate_at_once(op: BinOp, left: i64, right: i64, outcome: &mut Outcome) -> A
     }
 }
 
-// An operator whose left operand doesn't decide, between operands that are literals or slots.
+// An operator whose left operand doesn't decide.
 fn operation_at_once(
     tracking: bool,
     op: BinOp,
@@ -107,8 +167,9 @@ fn operation_at_once(
     }
 }
 
-/// What a formula answers, where it is a literal, a slot, a part of the row, or an operation between whole numbers that are literals or
-/// slots; what it comes to stands in `outcome`.
+/// What a formula answers, where it is a literal, a slot, a part of the row, or an operation between whole numbers that are literals,
+/// slots or one operation between such; what it comes to stands in `outcome`. It looks at no more than seven parts of a formula, so that a
+/// long one, which is asked again for each slot, is left to the list of its instructions.
 ///
 /// # Errors
 ///
