@@ -1,11 +1,11 @@
 // What must run.
-ghost use Rattle.std.specs.Prelude.{◌≡◌, ℕ, [], true, false, IfSome, IfNone, slice_get};
+ghost use Rattle.std.specs.Prelude.{◌≡◌, ℕ, ◌&&◌, [], true, false, IfSome, IfNone, slice_get};
 ghost use Rattle.signal_model.specs.Memos.{must_run_by, some_moved, sources_in};
-ghost use Rattle.sig_nodes.specs.Nodes.{body_at, has_differed, is_computed_body, memos_of, seat_at};
+ghost use Rattle.sig_nodes.specs.Nodes.{body_at, has_differed, is_computed_body, memo_body, memos_of, seat_at};
 ghost use Rattle.sig_nodes.specs.Places.{KeepsFound};
 ghost use Rattle.sig_nodes.specs.Search.{is_due_at, HasDue};
 
-use crate::bodies::{computation_at, differs, seat_at};
+use crate::bodies::{differs, seat_at};
 use crate::finds::Finds;
 use crate::node::{Body, Computation, Node};
 use crate::nodes::Nodes;
@@ -42,12 +42,22 @@ pub(crate) fn must_run(nodes: &Nodes, generation: u128, computation: &Computatio
     !computation.holds_cycle() && some_moved(nodes, computation)
 }
 
+/// Whether a computed lives in a node that must run.
+pub(crate) fn is_node_due(nodes: &Nodes, generation: u128, node: &Node) -> bool
+    ensures { result ≡ (is_computed_body node.now.body && must_run_by (memos_of generation nodes.now.items) (memo_body node.now.body) []) }
+{
+    match &node.body {
+        Body::Computed(computation) => must_run(nodes, generation, computation),
+        _ => false,
+    }
+}
+
 /// Whether a computed stands there that must run.
 pub(crate) fn is_due(nodes: &Nodes, generation: u128, id: NodeId) -> bool
     ensures { result ≡ is_due_at nodes.now.items generation id }
 {
-    match computation_at(nodes, id) {
-        Some(computation) => must_run(nodes, generation, computation),
+    match nodes.at(id) {
+        Some(node) => is_node_due(nodes, generation, node),
         None => false,
     }
 }
@@ -80,22 +90,4 @@ pub(crate) fn is_known_due(nodes: &Nodes, worn: u128, id: NodeId, finds: &Finds)
     ensures { result ≡ true → (g : ℕ) → KeepsFound nodes.now.items g worn finds.now → HasDue nodes.now.items g id }
 {
     finds.is_found(worn, seat_at(nodes, id))
-}
-
-/// Whether it is told without a search that a computed, or something below it, must run: a search has found it, or it must run itself.
-pub(crate) fn is_told(
-    nodes: &Nodes,
-    generation: u128,
-    worn: u128,
-    id: NodeId,
-    seat: usize,
-    finds: &Finds,
-) -> bool
-    requires live { is_computed_body (body_at nodes.now.items id) ≡ true }
-    requires seat { seat ≡ seat_at nodes.now.items id }
-    requires kept { KeepsFound nodes.now.items generation worn finds.now }
-    ensures due { result ≡ true → HasDue nodes.now.items generation id }
-    ensures calm { result ≡ false → is_due_at nodes.now.items generation id ≡ false }
-{
-    finds.is_found(worn, seat) || is_due(nodes, generation, id)
 }

@@ -1,5 +1,6 @@
 // The search for a computed that must run, among what is marked below a computed.
-ghost use Rattle.std.specs.Prelude.{◌≡◌, ℕ, ◌+◌, ◌*◌, ◌<◌, ◌≤◌, ◌++◌, ◌∷◌, [], length, not, true, false};
+ghost use Rattle.std.specs.Prelude.{◌≡◌, ℕ, ◌+◌, ◌*◌, ◌<◌, ◌≤◌, ◌++◌, ◌∷◌, ◌&&◌, [], length, not, true, false, Some, IfSome, is_some, slice_get};
+ghost use Rattle.std.specs.Option.{option_map};
 ghost use Rattle.signal_model.specs.Signals.{is_in};
 ghost use Rattle.signal_model.specs.Memos.{source_names, sources_in};
 ghost use Rattle.signal_model.specs.Marks.{mark_of};
@@ -10,36 +11,73 @@ ghost use Rattle.sig_nodes.specs.Search.{first_new, is_due_at, is_new, AreDue, A
 
 use crate::bodies::{seat_at, sources_at};
 use crate::finds::Finds;
-use crate::marks::{computed_seat, is_told};
+use crate::marks::{computed_seat, is_due, is_node_due};
+use crate::node::{Body, Node};
 use crate::nodes::Nodes;
 use crate::trail::Trail;
 use sig_base::{MOST_NODES, NodeId};
 use sig_marks::Marks;
 use sig_seats::Reached;
 
-// Whether a marked computed stands there whose seat isn't reached yet.
-fn is_new(nodes: &Nodes, marks: &Marks, reached: &Reached, id: NodeId) -> bool
-    ensures { result ≡ is_new nodes.now.items marks.now.marked reached.now id }
+// A computed that a search goes to, and its node.
+#[derive(Clone, Copy)]
+struct Next<'a> {
+    id: NodeId,
+    node: &'a Node,
+}
+
+// Whether a computed lives in a node whose seat isn't reached yet.
+fn is_node_new(node: &Node, reached: &Reached) -> bool
+    ensures { result ≡ (is_computed_body node.now.body && not (is_in node.now.seat reached.now)) }
+{
+    match node.body {
+        Body::Computed(_) => !reached.has(node.seat),
+        _ => false,
+    }
+}
+
+// The node of a marked computed that stands there, where its seat isn't reached yet.
+fn new_node<'a>(nodes: &'a Nodes, marks: &Marks, reached: &Reached, id: NodeId) -> Option<&'a Node>
+    ensures new { is_some result ≡ is_new nodes.now.items marks.now.marked reached.now id }
+    ensures node { IfSome result (λ x. slice_get nodes.now.items id ≡ Some x.now) }
 {
     if !marks.is_marked(id) {
-        return false;
+        return None;
     }
-    match computed_seat(nodes, id) {
-        Some(seat) => !reached.has(seat),
-        None => false,
+    let node = nodes.at(id)?;
+    if is_node_new(node, reached) {
+        Some(node)
+    } else {
+        None
     }
 }
 
 // The first such one among the sources that a computed keeps.
-fn next_below(nodes: &Nodes, marks: &Marks, reached: &Reached, id: NodeId) -> Option<NodeId>
-    ensures { result ≡ first_new nodes.now.items marks.now.marked reached.now (source_names (sources_in (memo_body (body_at nodes.now.items id)))) }
+fn next_below<'a>(
+    nodes: &'a Nodes,
+    marks: &Marks,
+    reached: &Reached,
+    id: NodeId,
+) -> Option<Next<'a>>
+    ensures next { option_map (λ n. n.id) result ≡ first_new nodes.now.items marks.now.marked reached.now (source_names (sources_in (memo_body (body_at nodes.now.items id)))) }
+    ensures node { IfSome result (λ n. slice_get nodes.now.items n.id ≡ Some n.node.now) }
 {
     for source in sources_at(nodes, id) {
-        if is_new(nodes, marks, reached, *source) {
-            return Some(*source);
+        if let Some(node) = new_node(nodes, marks, reached, *source) {
+            return Some(Next { id: *source, node });
         }
     }
     None
+}
+
+// Whether it is told without a search that a computed, or something below it, must run: a search has found it, or it must run itself.
+fn is_told(nodes: &Nodes, generation: u128, worn: u128, node: &Node, finds: &Finds) -> bool
+    requires live { is_computed_body node.now.body ≡ true }
+    requires kept { KeepsFound nodes.now.items generation worn finds.now }
+    ensures due { result ≡ true → (n : ℕ) → slice_get nodes.now.items n ≡ Some node.now → HasDue nodes.now.items generation n }
+    ensures calm { result ≡ false → (n : ℕ) → slice_get nodes.now.items n ≡ Some node.now → is_due_at nodes.now.items generation n ≡ false }
+{
+    finds.is_found(worn, node.seat) || is_node_due(nodes, generation, node)
 }
 
 // Goes to a computed, whose seat is reached from then on.
@@ -85,10 +123,9 @@ fn turn(
     let Some(next) = next_below(nodes, marks, reached, id) else {
         return false;
     };
-    let seat = seat_at(nodes, next);
     trail.enter(id);
-    go_to(next, seat, reached, trail);
-    is_told(nodes, generation, worn, next, seat, finds)
+    go_to(next.id, next.node.seat, reached, trail);
+    is_told(nodes, generation, worn, next.node, finds)
 }
 
 // Goes on from where the search is, and tells whether it comes to what must run. The trail leads there then, and else is empty.
@@ -200,8 +237,7 @@ pub(crate) fn finds_due(
     ensures reached { result ≡ false → Reaches nodes.now.items marks.now.marked generation reached.new [] }
     ensures kept { KeepsFound nodes.now.items generation worn finds.new }
 {
-    let seat = seat_at(nodes, id);
-    if is_told(nodes, generation, worn, id, seat, finds) {
+    if is_due(nodes, generation, id) {
         return true;
     }
     finds_below(nodes, generation, worn, marks, id, reached, trail, finds)

@@ -3,8 +3,8 @@ use Rattle.sig_nodes.specs.Search.{first_new}
 use Rattle.sig_nodes.proofs.Walks.{first_end, first_step}
 use Rattle.sig_nodes.proofs.search.next_below.Goals as goal
 
-pub returns-then-is_new : goal.returns-then-is_new
-returns-then-is_new c =
+pub returns-in-Some-clause-next : goal.returns-in-Some-clause-next
+returns-in-Some-clause-next c =
     let xs = c.args.nodes.now.items in
     let t = c.args.marks.now.marked in
     let ss = c.args.reached.now in
@@ -12,7 +12,7 @@ returns-then-is_new c =
     let i = c.loop-source.source-index in
     let n = c.source-item.result in
     let step = first_step xs t ss items i n c.loop-source-test.true c.source-item.is in
-    sym (step ∙ ap (λ b. if b then Some n else first_new xs t ss (drop (i + 1) items)) (sym c.is_new.ensures ∙ c.if-is_new.true))
+    sym (step ∙ ap (λ b. if b then Some n else first_new xs t ss (drop (i + 1) items)) (sym c.in-Some.ensures.new))
     ∙ c.loop-source.invariant ∙ ap (first_new xs t ss) c.sources_at-source-items.ensures
 
 pub loop-source-preserved : goal.loop-source-preserved
@@ -24,11 +24,11 @@ loop-source-preserved c =
     let i = c.loop-source.source-index in
     let n = c.source-item.result in
     let step = first_step xs t ss items i n c.loop-source-test.true c.source-item.is in
-    sym (step ∙ ap (λ b. if b then Some n else first_new xs t ss (drop (i + 1) items)) (sym c.is_new.ensures ∙ c.if-is_new.false))
+    sym (step ∙ ap (λ b. if b then Some n else first_new xs t ss (drop (i + 1) items)) (sym c.in_default.ensures.new))
     ∙ c.loop-source.invariant
 
-pub returns : goal.returns
-returns c =
+pub returns-clause-next : goal.returns-clause-next
+returns-clause-next c =
     let xs = c.args.nodes.now.items in
     let t = c.args.marks.now.marked in
     let ss = c.args.reached.now in
