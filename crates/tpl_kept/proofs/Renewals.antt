@@ -2,6 +2,7 @@ pub mod Apart
 pub mod Named
 pub mod RowMemos
 pub mod Standing
+pub mod Between
 pub mod Rounds
 pub mod Changes
 pub mod Nameless

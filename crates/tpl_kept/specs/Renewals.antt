@@ -25,11 +25,11 @@ SlotsWere b links t i before (m ∷ ms) =
     (i < length t.rows → WasMadeIfRead (lines_memo b) links (Some (record { rows = t; place = i })) before m)
     × SlotsWere b links t (suc i) before ms
 
--- what was kept of the row at a place is taken
-pub record TakesRow (b : Block) (links : List ℕ) (t : Table) (before : Outcomes) (place : Option ℕ) (m : PageMemo) (ms : List PageMemo) : Type 0 where
+-- what was kept of the row at a place is taken; what is left was kept for rows from place n on
+pub record TakesRow (b : Block) (links : List ℕ) (t : Table) (n : ℕ) (before : Outcomes) (place : Option ℕ) (m : PageMemo) (ms : List PageMemo) : Type 0 where
   pub taken : (i : ℕ) → place ≡ Some i → i < length t.rows → WasMadeIfRead (lines_memo b) links (Some (record { rows = t; place = i })) before m
   pub nothing : place ≡ None → is_unread m ≡ true
-  pub left : SlotsWere b links t 0 before ms
+  pub left : SlotsWere b links t n before ms
 
 -- nothing was heard, or names were heard up to one that may have another outcome
 pub data AreChanged (before : Outcomes) (ns : List ℕ) (earlier now : Outcomes) : Type 0 where

@@ -1,6 +1,6 @@
 -- How what was kept of lines is brought up to date: some of it stays whole, and of the rest the first line is heard again, before what is inside
 -- it and what is behind it.
-use Rattle.std.specs.Prelude.{◌≡◌, ◌<◌, ℕ, Bool, true, false, List, [], ◌∷◌, drop, length, map, Option, None, IfSome}
+use Rattle.std.specs.Prelude.{◌≡◌, ◌<◌, ℕ, zero, suc, Bool, true, false, List, [], ◌∷◌, drop, length, map, Option, None, IfSome}
 use Rattle.sig_base.specs.Tables.{Table}
 use Rattle.sig_base.specs.declared.rows.Row.{Row}
 use Rattle.sig_base.specs.declared.value.Fault.TheVariants.{Gone}
@@ -117,6 +117,12 @@ pub record RowsStand (t u : Table) (n : ℕ) (old ms : List PageMemo) : Type 0 w
   pub left : SlotsStay t old ms
   pub serve : (b : Block) (links : List ℕ) (before : Outcomes) → SlotsWere b links t 0 before old → WereEach b links (places_from u 0 n) before ms
   pub among : AreAmong t (places_from u 0 n) ms
+
+-- so many rows of a table from place i on have the keys and values of those of another from place j on
+abbrev pub AreAlike : Table → ℕ → Table → ℕ → ℕ → Type 0
+AreAlike t i u j zero = Unit {0}
+AreAlike t i u j (suc n) =
+    (same_here (record { rows = t; place = i }) (record { rows = u; place = j }) ≡ true) × AreAlike t (suc i) u (suc j) n
 
 -- What was kept inside a line serves where it is gone over again: of an element what was kept last, of a choice that of the same branch or
 -- nothing, and of a loop that of rows that are alike.

@@ -62,9 +62,9 @@ slots_were b links t before ms was = slots_from b links t before 0 t.rows ms (om
 -- ---- a row that is taken
 
 -- none is
-pub none_taken : (b : Block) (links : List ℕ) (t : Table) (before : Outcomes) (place : Option ℕ) (m : PageMemo) (ms : List PageMemo) → m ≡ unread →
-    SlotsWere b links t 0 before ms → TakesRow b links t before place m ms
-none_taken b links t before place m ms e all = record {
+pub none_taken : (b : Block) (links : List ℕ) (t : Table) (n : ℕ) (before : Outcomes) (place : Option ℕ) (m : PageMemo) (ms : List PageMemo) → m ≡ unread →
+    SlotsWere b links t n before ms → TakesRow b links t n before place m ms
+none_taken b links t n before place m ms e all = record {
   taken = λ i h lt. unread_was (lines_memo b) links (Some (row_at t i)) before m (ap is_unread e);
   nothing = λ h. ap is_unread e;
   left = all;
@@ -84,11 +84,11 @@ like_row b links r s before m e x = record {
 }
 
 -- what was taken for a row serves there
-pub row_ready : (b : Block) (links : List ℕ) (t u : Table) (before : Outcomes) (at : Option ℕ) (place : ℕ) (r : RowRef) (m : PageMemo) (ms : List PageMemo) →
+pub row_ready : (b : Block) (links : List ℕ) (t u : Table) (n : ℕ) (before : Outcomes) (at : Option ℕ) (place : ℕ) (r : RowRef) (m : PageMemo) (ms : List PageMemo) →
     r ≡ row_at u place → IfSome at (λ i. i < length t.rows) → IfSome at (λ i. same_here (row_at t i) (row_at u place) ≡ true) →
-    TakesRow b links t before at m ms → WasMadeIfRead (lines_memo b) links (Some r) before m
-row_ready b links t u before None place r m ms e lt same x = unread_was (lines_memo b) links (Some r) before m (x.nothing refl)
-row_ready b links t u before (Some i) place r m ms e lt same x =
+    TakesRow b links t n before at m ms → WasMadeIfRead (lines_memo b) links (Some r) before m
+row_ready b links t u n before None place r m ms e lt same x = unread_was (lines_memo b) links (Some r) before m (x.nothing refl)
+row_ready b links t u n before (Some i) place r m ms e lt same x =
     like_row b links (row_at t i) r before m (ap (same_here (row_at t i)) e ∙ same) (x.taken i refl lt)
 
 -- ---- at a place
@@ -111,16 +111,15 @@ slot_out b links t before i zero (m ∷ ms) all = ((λ lt. unread_was (lines_mem
 slot_out b links t before i (suc j) (m ∷ ms) all = (all.0, slot_out b links t before (suc i) j ms all.1)
 
 -- the row at a place is
-pub one_taken : (b : Block) (links : List ℕ) (t : Table) (before : Outcomes) (place : Option ℕ) (j : ℕ) (m : PageMemo) (ms ks : List PageMemo) →
-    place ≡ Some j → j < length ms → m ≡ get_or ms j m → ks ≡ slice_set ms j unread → SlotsWere b links t 0 before ms →
-    TakesRow b links t before place m ks
-one_taken b links t before place j m ms ks e lt is f all = record {
+pub one_taken : (b : Block) (links : List ℕ) (t : Table) (n : ℕ) (before : Outcomes) (place : Option ℕ) (j : ℕ) (m : PageMemo) (ms ks : List PageMemo) →
+    place ≡ Some (n + j) → j < length ms → m ≡ get_or ms j m → ks ≡ slice_set ms j unread → SlotsWere b links t n before ms →
+    TakesRow b links t n before place m ks
+one_taken b links t n before place j m ms ks e lt is f all = record {
   taken = λ i h in_table.
-      let same : i ≡ j = cc in
-      let n : 0 + j ≡ i = omega (arith, same) in
-      subst (λ z. WasMadeIfRead (lines_memo b) links (Some (row_at t z)) before m) n
-      (subst (λ z. WasMadeIfRead (lines_memo b) links (Some (row_at t (0 + j))) before z) (sym is)
-      (slot_at b links t before 0 j m ms lt all (omega (arith, in_table, same))));
+      let same : i ≡ n + j = cc in
+      subst (λ z. WasMadeIfRead (lines_memo b) links (Some (row_at t z)) before m) (sym same)
+      (subst (λ z. WasMadeIfRead (lines_memo b) links (Some (row_at t (n + j))) before z) (sym is)
+      (slot_at b links t before n j m ms lt all (omega (arith, in_table, same))));
   nothing = λ h. cc;
-  left = subst (SlotsWere b links t 0 before) (sym f) (slot_out b links t before 0 j ms all);
+  left = subst (SlotsWere b links t n before) (sym f) (slot_out b links t before n j ms all);
 }

@@ -32,12 +32,12 @@ left_out f (y ∷ ys) zero x = refl
 left_out f (y ∷ ys) (suc j) x = ap (λ z. f y ∷ z) (left_out f ys j x)
 
 -- what was kept at a place, as the code has it
-pub place_taken : {A : Type 0} (f : A → PageMemo) (b : Block) (links : List ℕ) (t : Table) (before : Outcomes) (place : Option ℕ) (j : ℕ) (x y : A)
-    (xs ys : List A) → place ≡ Some j → j < length xs → x ≡ get_or xs j x → ys ≡ slice_set xs j y → f y ≡ unread →
-    SlotsWere b links t 0 before (map f xs) → TakesRow b links t before place (f x) (map f ys)
-place_taken f b links t before place j x y xs ys e lt is set none all =
+pub place_taken : {A : Type 0} (f : A → PageMemo) (b : Block) (links : List ℕ) (t : Table) (n : ℕ) (before : Outcomes) (place : Option ℕ) (j : ℕ) (x y : A)
+    (xs ys : List A) → place ≡ Some (n + j) → j < length xs → x ≡ get_or xs j x → ys ≡ slice_set xs j y → f y ≡ unread →
+    SlotsWere b links t n before (map f xs) → TakesRow b links t n before place (f x) (map f ys)
+place_taken f b links t n before place j x y xs ys e lt is set none all =
     let l = length-map xs f in
-    one_taken b links t before place j (f x) (map f xs) (map f ys) e (omega (arith, l, lt)) (got f xs j x is)
+    one_taken b links t n before place j (f x) (map f xs) (map f ys) e (omega (arith, l, lt)) (got f xs j x is)
     (ap (map f) set ∙ (left_out f xs j y ∙ ap (slice_set (map f xs) j) none)) all
 
 -- ---- one row after the other
@@ -45,28 +45,28 @@ place_taken f b links t before place j x y xs ys e lt is set none all =
 pub none_were : (b : Block) (links : List ℕ) (u : Table) (before : Outcomes) (ms : List PageMemo) → WereEach b links (places_from u 0 0) before ms
 none_were b links u before ms = tt
 
-each_more : (b : Block) (links : List ℕ) (before : Outcomes) (rs : List (Option RowRef)) (r : Option RowRef) (ms : List PageMemo) (m : PageMemo) →
-    length rs ≡ length ms → WereEach b links rs before ms → WasMadeIfRead (lines_memo b) links r before m →
-    WereEach b links (rs ++ r ∷ []) before (ms ++ m ∷ [])
-each_more b links before [] r [] m e all w = (w, tt)
-each_more b links before [] r (k ∷ ms) m e all w = absurd (omega (arith, e))
-each_more b links before (q ∷ rs) r [] m e all w = absurd (omega (arith, e))
-each_more b links before (q ∷ rs) r (k ∷ ms) m e all w = (all.0, each_more b links before rs r ms m (omega (arith, e)) all.1 w)
+-- some rows, and others behind them
+pub were_both : (b : Block) (links : List ℕ) (before : Outcomes) (rs qs : List (Option RowRef)) (ms ks : List PageMemo) → length rs ≡ length ms →
+    WereEach b links rs before ms → WereEach b links qs before ks → WereEach b links (rs ++ qs) before (ms ++ ks)
+were_both b links before [] qs [] ks e all more = more
+were_both b links before [] qs (m ∷ ms) ks e all more = absurd (omega (arith, e))
+were_both b links before (r ∷ rs) qs [] ks e all more = absurd (omega (arith, e))
+were_both b links before (r ∷ rs) qs (m ∷ ms) ks e all more = (all.0, were_both b links before rs qs ms ks (omega (arith, e)) all.1 more)
 
 pub how_many : (u : Table) (i n : ℕ) → length (places_from u i n) ≡ n
 how_many u i zero = refl
 how_many u i (suc n) = ap suc (how_many u (suc i) n)
 
 -- one more row of now
-pub row_serves : (b : Block) (links : List ℕ) (t u : Table) (before : Outcomes) (at : Option ℕ) (n : ℕ) (m : PageMemo) (left ms ks : List PageMemo) →
-    IfSome at (λ i. i < length t.rows) → IfSome at (λ i. same_here (row_at t i) (row_at u n) ≡ true) → TakesRow b links t before at m left →
+pub row_serves : (b : Block) (links : List ℕ) (t u : Table) (i : ℕ) (before : Outcomes) (at : Option ℕ) (n : ℕ) (m : PageMemo) (left ms ks : List PageMemo) →
+    IfSome at (λ i. i < length t.rows) → IfSome at (λ i. same_here (row_at t i) (row_at u n) ≡ true) → TakesRow b links t i before at m left →
     length ms ≡ n → ks ≡ ms ++ m ∷ [] → WereEach b links (places_from u 0 n) before ms → WereEach b links (places_from u 0 (n + 1)) before ks
-row_serves b links t u before at n m left ms ks inside same x count put all =
+row_serves b links t u i before at n m left ms ks inside same x count put all =
     let w : WasMadeIfRead (lines_memo b) links (Some (row_at u n)) before m =
-    row_ready b links t u before at n (row_at u n) m left refl inside same x in
+    row_ready b links t u i before at n (row_at u n) m left refl inside same x in
     let c : length (places_from u 0 n) ≡ length ms = how_many u 0 n ∙ sym count in
     let more : WereEach b links (places_from u 0 n ++ Some (row_at u n) ∷ []) before (ms ++ m ∷ []) =
-    each_more b links before (places_from u 0 n) (Some (row_at u n)) ms m c all w in
+    were_both b links before (places_from u 0 n) (Some (row_at u n) ∷ []) ms (m ∷ []) c all (w, tt) in
     let e : 0 + n ≡ n = omega arith in
     subst (λ z. WereEach b links z before ks) (sym (places_more u 0 n ∙ ap (λ z. places_from u 0 n ++ Some (row_at u z) ∷ []) e))
     (subst (WereEach b links (places_from u 0 n ++ Some (row_at u n) ∷ []) before) (sym put) more)
@@ -79,12 +79,13 @@ taken_among : (t u : Table) (at : Option ℕ) (n : ℕ) (m : PageMemo) → IfSom
 taken_among t u None n m inside same none k = absurd (true≢false (sym (none refl) ∙ k))
 taken_among t u (Some i) n m inside same none k = record { place = i; inside = inside; same = same }
 
-among_more : (t : Table) (rs : List (Option RowRef)) (r : Option RowRef) (ms : List PageMemo) (m : PageMemo) → length rs ≡ length ms →
-    AreAmong t rs ms → (is_unread m ≡ false → IfSome r (λ s. IsAmong t s)) → AreAmong t (rs ++ r ∷ []) (ms ++ m ∷ [])
-among_more t [] r [] m e all w = (w, tt)
-among_more t [] r (k ∷ ms) m e all w = absurd (omega (arith, e))
-among_more t (q ∷ rs) r [] m e all w = absurd (omega (arith, e))
-among_more t (q ∷ rs) r (k ∷ ms) m e all w = (all.0, among_more t rs r ms m (omega (arith, e)) all.1 w)
+-- some rows, and others behind them
+pub among_both : (t : Table) (rs qs : List (Option RowRef)) (ms ks : List PageMemo) → length rs ≡ length ms → AreAmong t rs ms → AreAmong t qs ks →
+    AreAmong t (rs ++ qs) (ms ++ ks)
+among_both t [] qs [] ks e all more = more
+among_both t [] qs (m ∷ ms) ks e all more = absurd (omega (arith, e))
+among_both t (r ∷ rs) qs [] ks e all more = absurd (omega (arith, e))
+among_both t (r ∷ rs) qs (m ∷ ms) ks e all more = (all.0, among_both t rs qs ms ks (omega (arith, e)) all.1 more)
 
 -- one more row of now
 pub row_among : (t u : Table) (at : Option ℕ) (n : ℕ) (m : PageMemo) (ms ks : List PageMemo) → IfSome at (λ i. i < length t.rows) →
@@ -93,7 +94,7 @@ pub row_among : (t u : Table) (at : Option ℕ) (n : ℕ) (m : PageMemo) (ms ks 
 row_among t u at n m ms ks inside same none count put all =
     let c : length (places_from u 0 n) ≡ length ms = how_many u 0 n ∙ sym count in
     let more : AreAmong t (places_from u 0 n ++ Some (row_at u n) ∷ []) (ms ++ m ∷ []) =
-    among_more t (places_from u 0 n) (Some (row_at u n)) ms m c all (λ k. taken_among t u at n m inside same none k) in
+    among_both t (places_from u 0 n) (Some (row_at u n) ∷ []) ms (m ∷ []) c all ((λ k. taken_among t u at n m inside same none k), tt) in
     let e : 0 + n ≡ n = omega arith in
     subst (λ z. AreAmong t z ks) (sym (places_more u 0 n ∙ ap (λ z. places_from u 0 n ++ Some (row_at u z) ∷ []) e))
     (subst (AreAmong t (places_from u 0 n ++ Some (row_at u n) ∷ [])) (sym put) more)

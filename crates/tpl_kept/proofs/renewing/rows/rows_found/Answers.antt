@@ -1,23 +1,45 @@
-use Rattle.std.proofs.Common.{map}
+use Rattle.std.proofs.Common.{◌-◌, length, take, drop, sym, ap, subst, ◌∙◌, arith}
 use Rattle.tpl_model.specs.KeptLines.Kept.{kept}
-use Rattle.tpl_model.specs.KeptLines.Memos.{table_in}
-use Rattle.tpl_kept.proofs.Listened.Sequences.{mapped_put}
-use Rattle.tpl_kept.proofs.Renewals.RowMemos.{one_count, row_among, row_serves}
+use Rattle.tpl_kept.specs.Turns.{AreAlike}
+use Rattle.tpl_kept.proofs.Renewals.Between.{Cut, found_serve}
 use Rattle.tpl_kept.proofs.renewing.rows.rows_found.Goals as goal
 
-pub loop-place-preserved : goal.loop-place-preserved
-loop-place-preserved c =
-    let v = c.loop-place.invariant in
-    let put = c.in_ok-push.ensures.items in
-    record {
-      count = one_count kept c.loop-place.taken.items c.push.new.self.items c.take_row-one.result c.loop-place.place put v.count;
-      left = λ b links before s. (c.take_row-one.ensures.takes b links (table_in c.args.was.now) before (v.left b links before s)).left;
-      taken = λ b links before s.
-          row_serves b links (table_in c.args.was.now) (table_in c.args.next.now) before c.in_ok-at.at c.loop-place.place (kept c.take_row-one.result)
-          (map kept c.take_row-one.new.old.items) (map kept c.loop-place.taken.items) (map kept c.push.new.self.items) c.in_ok-at.ensures.inside
-          c.in_ok-at.ensures.same (c.take_row-one.ensures.takes b links (table_in c.args.was.now) before (v.left b links before s)) v.count
-          (mapped_put kept c.loop-place.taken.items c.push.new.self.items c.take_row-one.result put) (v.taken b links before s);
-      among = row_among (table_in c.args.was.now) (table_in c.args.next.now) c.in_ok-at.at c.loop-place.place (kept c.take_row-one.result)
-          (map kept c.loop-place.taken.items) (map kept c.push.new.self.items) c.in_ok-at.ensures.inside c.in_ok-at.ensures.same
-          c.take_row-one.ensures.nothing v.count (mapped_put kept c.loop-place.taken.items c.push.new.self.items c.take_row-one.result put) v.among;
-    }
+pub overflow_sub-fewer : goal.overflow_sub-fewer
+overflow_sub-fewer c = c.fewer.ensures.most c.args.front c.requires.was c.requires.rows
+
+pub returns : goal.returns
+returns c = λ old x.
+    let was = c.args.was.now in
+    let rows = c.args.rows.now in
+    let front = c.args.front in
+    let back = c.count_back-back.result in
+    let i = c.len.result - back in
+    let last = c.len-2.result - back in
+    let k = c.len-3.result - back - front in
+    let first = c.reserve.new.self.items in
+    let left = c.split_off-2.new.self.items in
+    let behind = c.in_ok-behind.behind.items in
+    let found = c.put_found.new.taken.items in
+    let all = c.append.new.self.items in
+    let most = c.count_back-back.ensures.most in
+    let few = c.fewer.ensures.was in
+    let many = c.fewer.ensures.rows in
+    let own = c.requires.was in
+    let whole = c.len.ensures in
+    let now = c.len-2.ensures in
+    let again = c.len-3.ensures in
+    let cut : Cut was rows front back k i last c.args.memos.items first left behind found all = record {
+      is_first = c.in_ok-reserve.ensures.items ∙ c.in_ok-left.ensures.items;
+      is_left = c.in_ok-behind.ensures.items ∙ ap (take k) c.in_ok-left.ensures.tail;
+      is_behind = c.in_ok-behind.ensures.tail ∙ ap (drop k) c.in_ok-left.ensures.tail;
+      whole = c.in_ok-append.ensures.items;
+      many = c.in_ok-put_found.ensures.count;
+      between = omega (arith, most, few, many, own, whole, again);
+      was_all = omega (arith, most, few, whole);
+      now_all = omega (arith, most, many, now);
+      alike =
+          subst (λ z. AreAlike was (z - back) rows last back) (sym whole)
+          (subst (λ z. AreAlike was (length was.rows - back) rows (z - back) back) (sym now) c.count_back-back.ensures.alike);
+    } in
+    found_serve kept was rows front back k i last c.args.memos.items first left behind found all old cut x c.in_ok-put_found.ensures.serve
+    c.in_ok-put_found.ensures.among

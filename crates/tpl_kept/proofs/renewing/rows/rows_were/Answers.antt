@@ -1,10 +1,16 @@
+use Rattle.std.proofs.Common.{length, map, ap}
+use Rattle.tpl_model.specs.KeptLines.Kept.{kept}
+use Rattle.tpl_model.specs.KeptLines.Memos.{table_in}
+use Rattle.tpl_kept.specs.Heads.{places_from}
+use Rattle.tpl_kept.proofs.Renewals.Between.{nothing_among, nothing_serves}
 use Rattle.tpl_kept.proofs.renewing.rows.rows_were.Goals as goal
 
-pub returns-then-stand-clause-serve : goal.returns-then-stand-clause-serve
-returns-then-stand-clause-serve c = (c.stand.ensures.stand c.if-stand.true).serve
+pub returns-in_default-clause-serve : goal.returns-in_default-clause-serve
+returns-in_default-clause-serve c = λ b links before s.
+    let next = table_in c.args.next.now in
+    nothing_serves b links before (places_from next 0 (length next.rows)) (map kept c.new.result.items) (ap (map kept) c.new.ensures.items)
 
-pub returns-then-stand-clause-among : goal.returns-then-stand-clause-among
-returns-then-stand-clause-among c = (c.stand.ensures.stand c.if-stand.true).among
-
-pub returns-clause-serve : goal.returns-clause-serve
-returns-clause-serve c = λ b links before s. c.in_ok-found.ensures.serve b links before (c.stand.ensures.left b links before s)
+pub returns-in_default-clause-among : goal.returns-in_default-clause-among
+returns-in_default-clause-among c =
+    let next = table_in c.args.next.now in
+    nothing_among (table_in c.args.was.now) (places_from next 0 (length next.rows)) (map kept c.new.result.items) (ap (map kept) c.new.ensures.items)
