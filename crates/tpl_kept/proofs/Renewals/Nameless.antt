@@ -1,5 +1,5 @@
 -- Lines that read no name stay, and others are brought up to date behind them.
-use Rattle.std.proofs.Common.{◌≡◌, ℕ, zero, suc, ◌+◌, ◌-◌, ◌<◌, ◌≤◌, false, List, [], ◌∷◌, ◌++◌, drop, length, map, replicate, take, Option, refl, sym, ap, subst, ◌∙◌, append_assoc, arith}
+use Rattle.std.proofs.Common.{◌≡◌, ℕ, zero, suc, ◌+◌, ◌<◌, ◌≤◌, false, List, [], ◌∷◌, ◌++◌, drop, length, map, replicate, slice_get, take, Option, Some, refl, sym, ap, subst, ◌∙◌, append_assoc, arith}
 use Rattle.std.proofs.lemmas.Bool.{true≢false}
 use Rattle.std.proofs.lemmas.List.{append-nil, map-append, replicate_more}
 use Rattle.sig_formula.specs.declared.formula.RowRef.{RowRef}
@@ -102,6 +102,10 @@ no_front rows was dones changes = record { count = 0; keeps = (refl, (refl, (ref
 
 -- ---- so many of them
 
+none_there : {A : Type 0} (i : ℕ) (x : A) → slice_get [] i ≡ Some x → ⊥
+none_there zero x e = cc
+none_there (suc i) x e = cc
+
 -- what became of one more is that it stays
 pub stays_put : {A : Type 0} (f : A → Change) (old now more : List A) (x : A) (i : ℕ) → map f now ≡ map f old ++ replicate i stays →
     more ≡ now ++ x ∷ [] → f x ≡ stays → map f more ≡ map f old ++ replicate (i + 1) stays
@@ -111,19 +115,24 @@ stays_put f old now more x i e p q =
     ∙ ((λ j. e j ++ q j ∷ [])
     ∙ (append_assoc (map f old) (replicate i stays) (stays ∷ []) ∙ ap (λ z. map f old ++ z) (replicate_more i stays))))
 
--- one more
-pub more_nameless : (n : ℕ) (m : PageMemo) (ms ks : List PageMemo) → 0 < n → ks ≡ m ∷ ms → AreNameless n ks →
-    (is_unread m ≡ false → ReadsNone m) × AreNameless (n - 1) ms
-more_nameless zero m ms ks lt e a = absurd (omega (arith, lt))
-more_nameless (suc n) m ms ks lt e a =
-    let p : suc n - 1 ≡ n = omega arith in
-    let k = subst (AreNameless (suc n)) e a in
-    (k.0, subst (λ z. AreNameless z ms) (sym p) k.1)
+-- the one at a place
+pub nameless_at : {A : Type 0} (f : A → PageMemo) (n i : ℕ) (x : A) (xs : List A) → i < n → slice_get xs i ≡ Some x → AreNameless n (map f xs) →
+    is_unread (f x) ≡ false → ReadsNone (f x)
+nameless_at f zero i x xs lt is all u = absurd (omega (arith, lt))
+nameless_at f (suc n) i x [] lt is all u = absurd (none_there i x is)
+nameless_at f (suc n) zero x (y ∷ ys) lt is all u =
+    let e : y ≡ x = cc in
+    subst (λ z. is_unread (f z) ≡ false → ReadsNone (f z)) e all.0 u
+nameless_at f (suc n) (suc i) x (y ∷ ys) lt is all u = nameless_at f n i x ys (omega (arith, lt)) is all.1 u
 
-pub more_read : (n : ℕ) (m : PageMemo) (ms ks : List PageMemo) → ks ≡ m ∷ ms → ReadsNone m → ReadNone n ms → ReadNone (1 + n) ks
-more_read n m ms ks e r a =
-    let p : 1 + n ≡ suc n = omega arith in
-    subst (λ z. ReadNone z ks) (sym p) (subst (ReadNone (suc n)) (sym e) (r, a))
+-- one more
+pub read_more : {A : Type 0} (f : A → PageMemo) (n : ℕ) (x : A) (xs : List A) → slice_get xs n ≡ Some x → ReadsNone (f x) → ReadNone n (map f xs) →
+    ReadNone (n + 1) (map f xs)
+read_more f n x [] is r all = absurd (none_there n x is)
+read_more f zero x (y ∷ ys) is r all = let e : x ≡ y = cc in (subst (λ z. ReadsNone (f z)) e r, tt)
+read_more f (suc n) x (y ∷ ys) is r all =
+    let p : suc (n + 1) ≡ suc n + 1 = omega arith in
+    subst (λ z. ReadNone z (f y ∷ map f ys)) p (all.0, read_more f n x ys is r all.1)
 
 -- something was kept in each of them
 pub few_read : (n : ℕ) (ms : List PageMemo) → ReadNone n ms → n ≤ length ms

@@ -42,7 +42,7 @@ fn is_end(memo: Option<&PageMemo>) -> bool {
 /// What is known of the lines inside the first one, which are gone over so often, where `heard` says whether all names of that have the outcomes of
 /// before: where no line is behind it and those inside stand once, what has changed stands there.
 pub(crate) fn look_inside(look: Look, heard: bool, count: usize, later: &Round) -> Look {
-    if is_behind(look, heard) && count == 1 && is_end(later.front()) {
+    if is_behind(look, heard) && count == 1 && is_end(later.left().first()) {
         return Look::Changed;
     }
     Look::First

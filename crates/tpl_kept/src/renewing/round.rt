@@ -60,11 +60,6 @@ impl Round {
         &self.memos[self.at..]
     }
 
-    /// What was kept in the next row, where something was.
-    pub fn front(&self) -> Option<&PageMemo> {
-        self.memos.get(self.at)
-    }
-
     /// Takes what was kept in the next row, or nothing.
     pub fn take(&mut self) -> PageMemo
         ensures first { kept result ≡ first_of (was_of self.old) }

@@ -68,16 +68,15 @@ fn count_front(silent: bool, most: usize, memos: &[PageMemo]) -> usize
     ensures most { result ≤ most }
     ensures none { ReadNone result (map kept memos.now) }
 {
-    if most == 0 {
-        return 0;
+    for count in 0..most {
+        let Some(memo) = memos.get(count) else {
+            return count;
+        };
+        if !is_quiet(silent, memo) {
+            return count;
+        }
     }
-    let Some((memo, others)) = memos.split_first() else {
-        return 0;
-    };
-    if !is_quiet(silent, memo) {
-        return 0;
-    }
-    1 + count_front(silent, most - 1, others)
+    most
 }
 
 // Puts behind what became of lines that so many of them stay.
