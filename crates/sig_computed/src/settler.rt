@@ -19,11 +19,10 @@ use crate::frames::{Doing, Open, Outer, Read, Turn, begin_run, go_in, go_out};
 use crate::notes::RunNote;
 use crate::turns::{is_clean, outcome_of, turn_of};
 use crate::visited::Visited;
-use sig_base::{Fault, NoMemory, NodeId, Outcome};
+use sig_base::{NoMemory, NodeId, Outcome};
 use sig_host::{Lent, Shelf};
 use sig_nodes::{Graph, Standing};
 use std::alloc::Global;
-use std::mem;
 
 // Begins the evaluation of a computed: what is stale runs, and all else looks first.
 fn begin(graph: &mut Graph, frame: &mut Open)
@@ -51,44 +50,44 @@ fn names(alloc: Global, reads: &[Read]) -> Result<Vec<NodeId>, NoMemory>
     Ok(all)
 }
 
-// Keeps a run in the graph, by the names of what it read.
+// Keeps a run in the graph, by the names of what it read. Its outcome is taken from where it stands.
 fn keep_in(
     graph: &mut Graph,
     node: NodeId,
     names: &[NodeId],
-    outcome: &Outcome,
+    outcome: &mut Outcome,
 ) -> Result<(), NoMemory>
     requires computing { is_computing graph.old.state node ≡ true }
     requires given { All (λ n. is_given graph.old n ≡ true) names.now }
     requires worn { CanWear graph.old.state }
-    ensures { OnOk result ((reads : List Seen) → names.now ≡ names_of reads → IsKept graph.old graph.new node (record { reads = reads; outcome = outcome.now })) }
+    ensures { OnOk result ((reads : List Seen) → names.now ≡ names_of reads → IsKept graph.old graph.new node (record { reads = reads; outcome = outcome.old })) }
 {
-    let outcome = outcome.copy()?;
     graph.keep_reads(node, outcome, names)?;
     Ok(())
 }
 
-// Keeps a run, and notes it.
+// Keeps a run, and notes it: its outcome is copied for the note alone.
 fn keep(
     alloc: Global,
     graph: &mut Graph,
     notes: &mut Vec<RunNote>,
     node: NodeId,
     reads: &[Read],
-    outcome: Outcome,
+    outcome: &mut Outcome,
 ) -> Result<(), NoMemory>
     requires computing { is_computing graph.old.state node ≡ true }
     requires given { AreReadsGiven graph.old (map seen_of reads.now) }
     requires worn { CanWear graph.old.state }
-    ensures after { OnOk result (IsKept graph.old graph.new node (evaluation_of reads.now outcome)) }
-    ensures notes { OnOk result (map note_of notes.new.items ≡ map note_of notes.old.items ++ evaluation_note node (evaluation_of reads.now outcome) ∷ []) }
+    ensures after { OnOk result (IsKept graph.old graph.new node (evaluation_of reads.now outcome.old)) }
+    ensures notes { OnOk result (map note_of notes.new.items ≡ map note_of notes.old.items ++ evaluation_note node (evaluation_of reads.now outcome.old) ∷ []) }
 {
     let reads = names(alloc, reads)?;
-    keep_in(graph, node, &reads, &outcome)?;
+    let noted = outcome.copy()?;
+    keep_in(graph, node, &reads, outcome)?;
     notes.push(RunNote {
         id: node,
         reads,
-        outcome,
+        outcome: noted,
     })?;
     Ok(())
 }
@@ -125,8 +124,14 @@ fn apply(
             Ok(go_out(stack, frame))
         }
         Turn::Ends => {
-            let outcome = mem::replace(&mut frame.outcome, Outcome::Bad(Fault::Cycle));
-            keep(alloc, graph, notes, frame.id, &frame.learnt.reads, outcome)?;
+            keep(
+                alloc,
+                graph,
+                notes,
+                frame.id,
+                &frame.learnt.reads,
+                &mut frame.outcome,
+            )?;
             visited.add(frame.id)?;
             Ok(go_out(stack, frame))
         }

@@ -1,5 +1,5 @@
 // What the nodes of a graph answer about the signal at one place. Past the last place nothing lives.
-ghost use Rattle.std.specs.Prelude.{◌≡◌, ◌<◌, ◌∷◌, ◌||◌, ◌&&◌, not, map, is_some, true, false, None, Some, IfOk, IfSome, IfNone, slice_get};
+ghost use Rattle.std.specs.Prelude.{◌≡◌, ◌<◌, ◌∷◌, ◌||◌, ◌&&◌, not, map, is_some, true, false, None, Some, IfOk, IfSome, IfNone, OnOk, slice_get};
 ghost use Rattle.std.specs.Option.{option_copied};
 ghost use Rattle.signal_model.specs.Signals.{is_computed};
 ghost use Rattle.signal_model.specs.Memos.{is_stale_by, memo_is_cycle, same_number, source_names, sources_in};
@@ -300,21 +300,20 @@ fn number_of(node: &Node) -> Option<u128>
     }
 }
 
-/// The present change numbers of these, in place of what stood in `room`.
+/// The present change numbers of these, in place of what stood in a list.
 pub(crate) fn numbers_now(
-    room: Vec<Option<u128>>,
+    numbers: &mut Vec<Option<u128>>,
     nodes: &Nodes,
     ids: &[NodeId],
-) -> Result<Vec<Option<u128>>, NoMemory>
-    ensures { IfOk result (λ v. v.items ≡ map (number_at nodes.now.items) ids.now) }
+) -> Result<(), NoMemory>
+    ensures { OnOk result (numbers.new.items ≡ map (number_at nodes.now.items) ids.now) }
 {
-    let mut numbers = room;
     numbers.clear();
     numbers.reserve_exact(ids.len())?;
     for id in ids {
         numbers.push(number_at(nodes, *id))?;
     }
-    Ok(numbers)
+    Ok(())
 }
 
 fn same_number(a: Option<u128>, b: Option<u128>) -> bool

@@ -11,9 +11,9 @@ use crate::bodies::{compared_at, is_stale_at, moved_at, numbers_now};
 use crate::end_marks::{end_mark, run_unmarks, stop_unmarks};
 use crate::graph::Graph;
 use crate::links::{copied, has_read, relink};
-use crate::node::{Memo, keep_room, take_room};
+use crate::node::Memo;
 use crate::store::{ask_at, begin_at, end_at, keep_memo_at, renew_memo_at};
-use sig_base::{Known, NoMemory, NodeId, Outcome};
+use sig_base::{Fault, Known, NoMemory, NodeId, Outcome};
 use std::mem;
 
 /// One counted step more.
@@ -136,36 +136,38 @@ impl Graph {
         ensures seats { OnOk result (self.new.seats ≡ self.old.seats) }
     {
         let _count = self.nodes.made();
-        let room = mem::replace(&mut self.room, Vec::new(self.alloc));
-        let numbers = numbers_now(room, &self.nodes, &reads)?;
+        let mut numbers = Vec::new(self.alloc);
+        numbers_now(&mut numbers, &self.nodes, &reads)?;
         relink(&self.nodes, &mut self.marks, id, &reads)?;
         let unmarks = run_unmarks(&self.nodes, &self.marks, &outcome, &reads);
         end_mark(&mut self.marks, id, unmarks);
         self.worn += 1;
         let memo = Memo::new(outcome, reads, numbers, self.generation);
-        let former = keep_memo_at(&mut self.nodes, id, memo);
-        take_room(&mut self.room, former);
+        keep_memo_at(&mut self.nodes, id, memo);
         Ok(())
     }
 
     // Ends an evaluation with a run that read what the kept one did. Its clauses are those of any run, beside what it needs of the kept one.
-    fn keep_again(&mut self, id: NodeId, outcome: Outcome, reads: &[NodeId]) -> Result<(), NoMemory>
+    fn keep_again(
+        &mut self,
+        id: NodeId,
+        outcome: &mut Outcome,
+        reads: &[NodeId],
+    ) -> Result<(), NoMemory>
         requires kept { is_some (memo_of self.old.state.memos id) ≡ true }
         requires same { source_names (sources_of self.old.state.memos id) ≡ reads.now }
         requires computing { is_computing self.old.state id ≡ true }
         requires given { All (λ n. is_given self.old n ≡ true) reads.now }
         requires worn { CanWear self.old.state }
-        ensures after { OnOk result (Becomes self.old self.new (with_kept_run self.old.state id outcome reads.now)) }
+        ensures after { OnOk result (Becomes self.old self.new (with_kept_run self.old.state id outcome.old reads.now)) }
         ensures seats { OnOk result (self.new.seats ≡ self.old.seats) }
     {
         let _count = self.nodes.made();
-        let room = mem::replace(&mut self.room, Vec::new(self.alloc));
-        let numbers = numbers_now(room, &self.nodes, reads)?;
-        let unmarks = run_unmarks(&self.nodes, &self.marks, &outcome, reads);
+        numbers_now(&mut self.room, &self.nodes, reads)?;
+        let unmarks = run_unmarks(&self.nodes, &self.marks, outcome, reads);
         end_mark(&mut self.marks, id, unmarks);
         self.worn += 1;
-        let former = renew_memo_at(&mut self.nodes, id, outcome, numbers, self.generation);
-        keep_room(&mut self.room, former);
+        renew_memo_at(&mut self.nodes, id, outcome, &self.room, self.generation);
         Ok(())
     }
 
@@ -177,17 +179,18 @@ impl Graph {
         has_read(&self.nodes, id, reads)
     }
 
-    /// Ends an evaluation with a run, as `keep_run` does, and takes a list of what it read only where the kept run didn't read the same.
+    /// Ends an evaluation with a run, as `keep_run` does, and takes a list of what it read only where the kept run didn't read the same. The
+    /// outcome is taken from where it stands.
     pub fn keep_reads(
         &mut self,
         id: NodeId,
-        outcome: Outcome,
+        outcome: &mut Outcome,
         reads: &[NodeId],
     ) -> Result<(), NoMemory>
         requires computing { is_computing self.old.state id ≡ true }
         requires given { All (λ n. is_given self.old n ≡ true) reads.now }
         requires worn { CanWear self.old.state }
-        ensures after { OnOk result (Becomes self.old self.new (with_kept_run self.old.state id outcome reads.now)) }
+        ensures after { OnOk result (Becomes self.old self.new (with_kept_run self.old.state id outcome.old reads.now)) }
         ensures seats { OnOk result (self.new.seats ≡ self.old.seats) }
     {
         if self.has_read(id, reads) {
@@ -195,6 +198,7 @@ impl Graph {
             return Ok(());
         }
         let reads = copied(self.alloc, reads)?;
+        let outcome = mem::replace(outcome, Outcome::Bad(Fault::Cycle));
         self.keep_run(id, outcome, reads)?;
         Ok(())
     }

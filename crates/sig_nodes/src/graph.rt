@@ -36,7 +36,7 @@ pub struct Graph {
     pub(crate) finds: Finds,
     pub(crate) reached: Reached,
     pub(crate) trail: Trail,
-    // where the numbers of the next run are put: it held those of a memo that is kept no more
+    // where the numbers of a run are put before they are kept
     pub(crate) room: Vec<Option<u128>>,
 }
 

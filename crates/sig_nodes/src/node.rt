@@ -26,9 +26,6 @@ use std::alloc::Global;
 use std::marker::Model;
 use std::mem;
 
-// Of how many numbers at most what held them is used again, so that no computed holds much more than it needs.
-const MOST_ROOM: usize = 8;
-
 /// A source that was read, with its change number at that time, none for gone.
 #[derive(Clone, Copy)]
 pub(crate) struct Source {
@@ -129,20 +126,15 @@ impl Memo {
         }
     }
 
-    // A run more of the same sources, of which these are the numbers now. It gives those of before.
-    fn renew(
-        &mut self,
-        outcome: Outcome,
-        numbers: Vec<Option<u128>>,
-        generation: u128,
-    ) -> Vec<Option<u128>>
-        requires { length numbers.items ≡ length self.old.sources }
-        ensures { self.new ≡ renewed (Some self.old) outcome numbers.items generation }
+    // A run more of the same sources, of which these are the numbers now. Its outcome goes where that of before stands.
+    fn renew(&mut self, outcome: &mut Outcome, numbers: &[Option<u128>], generation: u128)
+        requires { length numbers.now ≡ length self.old.sources }
+        ensures { self.new ≡ renewed (Some self.old) outcome.old numbers.now generation }
     {
-        self.outcome = outcome;
+        mem::swap(&mut self.outcome, outcome);
+        self.numbers.copy_from_slice(numbers);
         self.generation = generation;
         self.rewired = false;
-        mem::replace(&mut self.numbers, numbers)
     }
 
     fn mark_rewired(&mut self)
@@ -150,21 +142,6 @@ impl Memo {
     {
         self.rewired = true;
     }
-}
-
-/// Takes what held the numbers of a run that is kept no more for those of another, where they were few.
-pub(crate) fn keep_room(room: &mut Vec<Option<u128>>, former: Vec<Option<u128>>) {
-    if former.capacity() <= MOST_ROOM {
-        *room = former;
-    }
-}
-
-/// The same of a memo, where there was one.
-pub(crate) fn take_room(room: &mut Vec<Option<u128>>, former: Option<Memo>) {
-    let Some(memo) = former else {
-        return;
-    };
-    keep_room(room, memo.numbers);
 }
 
 /// Whether an outcome is the fault `cycle`.
@@ -356,12 +333,12 @@ impl Computation {
         }
     }
 
-    /// Keeps a run, which ends the evaluation, and gives the memo of before.
-    pub(crate) fn keep(&mut self, memo: Memo) -> Option<Memo>
+    /// Keeps a run, which ends the evaluation.
+    pub(crate) fn keep(&mut self, memo: Memo)
         ensures { self.new ≡ record self.old { memo = Some memo; known = None } }
     {
         self.computing = false;
-        mem::replace(&mut self.memo, Some(memo))
+        self.memo = Some(memo);
     }
 
     /// Whether it keeps a run.
@@ -374,16 +351,16 @@ impl Computation {
         }
     }
 
-    /// Keeps a run that read what the kept one did, by the numbers now, which ends the evaluation, and gives the numbers of before.
+    /// Keeps a run that read what the kept one did, by the numbers now, which ends the evaluation.
     pub(crate) fn keep_again(
         &mut self,
-        outcome: Outcome,
-        numbers: Vec<Option<u128>>,
+        outcome: &mut Outcome,
+        numbers: &[Option<u128>],
         generation: u128,
-    ) -> Vec<Option<u128>>
+    )
         requires kept { is_some self.old.memo ≡ true }
-        requires numbers { length numbers.items ≡ length (sources_in self.old.memo) }
-        ensures { self.new ≡ record self.old { memo = Some (renewed self.old.memo outcome numbers.items generation); known = None } }
+        requires numbers { length numbers.now ≡ length (sources_in self.old.memo) }
+        ensures { self.new ≡ record self.old { memo = Some (renewed self.old.memo outcome.old numbers.now generation); known = None } }
     {
         self.computing = false;
         match &mut self.memo {

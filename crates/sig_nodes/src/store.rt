@@ -38,8 +38,8 @@ pub(crate) fn set_value_at(nodes: &mut Nodes, id: NodeId, value: Value) -> Value
     set_value(nodes.node_mut(id), value)
 }
 
-// Keeps a run in a computed's node, whose number rises where the outcome is another, and gives the memo of before.
-fn keep_memo(node: &mut Node, memo: Memo) -> Option<Memo>
+// Keeps a run in a computed's node, whose number rises where the outcome is another.
+fn keep_memo(node: &mut Node, memo: Memo)
     requires live { is_computed_body node.old.body ≡ true }
     requires worn { node.old.number + 1 < 2 ^ 128 }
     ensures { node.new ≡ run_node memo node.old }
@@ -55,30 +55,25 @@ fn keep_memo(node: &mut Node, memo: Memo) -> Option<Memo>
     }
 }
 
-/// Keeps a run of a computed, which ends its evaluation, and gives the memo of before.
-pub(crate) fn keep_memo_at(nodes: &mut Nodes, id: NodeId, memo: Memo) -> Option<Memo>
+/// Keeps a run of a computed, which ends its evaluation.
+pub(crate) fn keep_memo_at(nodes: &mut Nodes, id: NodeId, memo: Memo)
     requires live { is_computed_body (body_at nodes.old.items id) ≡ true }
     requires worn { change_at nodes.old.items id + 1 < 2 ^ 128 }
     ensures { nodes.new.items ≡ changed_at (run_node memo) id nodes.old.items }
 {
-    keep_memo(nodes.node_mut(id), memo)
+    keep_memo(nodes.node_mut(id), memo);
 }
 
-// Keeps a run of a computed's node that read what the kept one did, and gives the numbers of before.
-fn renew_memo(
-    node: &mut Node,
-    outcome: Outcome,
-    numbers: Vec<Option<u128>>,
-    generation: u128,
-) -> Vec<Option<u128>>
+// Keeps a run of a computed's node that read what the kept one did.
+fn renew_memo(node: &mut Node, outcome: &mut Outcome, numbers: &[Option<u128>], generation: u128)
     requires kept { is_some (memo_body node.old.body) ≡ true }
-    requires numbers { length numbers.items ≡ length (sources_in (memo_body node.old.body)) }
+    requires numbers { length numbers.now ≡ length (sources_in (memo_body node.old.body)) }
     requires worn { node.old.number + 1 < 2 ^ 128 }
-    ensures { node.new ≡ run_node (renewed (memo_body node.old.body) outcome numbers.items generation) node.old }
+    ensures { node.new ≡ run_node (renewed (memo_body node.old.body) outcome.old numbers.now generation) node.old }
 {
     match &mut node.body {
         Body::Computed(computation) => {
-            if !computation.has_outcome(&outcome) {
+            if !computation.has_outcome(outcome) {
                 node.number += 1;
             }
             computation.keep_again(outcome, numbers, generation)
@@ -87,21 +82,20 @@ fn renew_memo(
     }
 }
 
-/// Keeps a run of a computed that read what the kept one did, by the numbers now, which ends its evaluation, and gives the numbers of
-/// before.
+/// Keeps a run of a computed that read what the kept one did, by the numbers now, which ends its evaluation.
 pub(crate) fn renew_memo_at(
     nodes: &mut Nodes,
     id: NodeId,
-    outcome: Outcome,
-    numbers: Vec<Option<u128>>,
+    outcome: &mut Outcome,
+    numbers: &[Option<u128>],
     generation: u128,
-) -> Vec<Option<u128>>
+)
     requires kept { is_some (memo_body (body_at nodes.old.items id)) ≡ true }
-    requires numbers { length numbers.items ≡ length (sources_in (memo_body (body_at nodes.old.items id))) }
+    requires numbers { length numbers.now ≡ length (sources_in (memo_body (body_at nodes.old.items id))) }
     requires worn { change_at nodes.old.items id + 1 < 2 ^ 128 }
-    ensures { nodes.new.items ≡ changed_at (run_node (renewed (memo_body (body_at nodes.old.items id)) outcome numbers.items generation)) id nodes.old.items }
+    ensures { nodes.new.items ≡ changed_at (run_node (renewed (memo_body (body_at nodes.old.items id)) outcome.old numbers.now generation)) id nodes.old.items }
 {
-    renew_memo(nodes.node_mut(id), outcome, numbers, generation)
+    renew_memo(nodes.node_mut(id), outcome, numbers, generation);
 }
 
 // Gives a computed's node another recipe.

@@ -1,4 +1,4 @@
-use Rattle.std.proofs.Common.{◌≡◌, ap, ◌∙◌, arith}
+use Rattle.std.proofs.Common.{◌≡◌, refl, ap, ◌∙◌, arith}
 use Rattle.sig_nodes.specs.States.{State}
 use Rattle.sig_computed.proofs.Runs.{kept_run}
 use Rattle.sig_computed.proofs.settler.keep_in.Goals as goal
@@ -9,8 +9,7 @@ returns c = λ reads same.
     record {
       signals = ap (λ (s : State). s.signals) a.state;
       memos = ap (λ (s : State). s.memos) a.state
-          ∙ kept_run c.args.graph.now.state.memos c.args.node c.in_ok-outcome.outcome c.args.outcome.now c.args.names.now reads
-          c.in_ok-outcome.ensures same;
+          ∙ kept_run c.args.graph.now.state.memos c.args.node c.args.outcome.now c.args.outcome.now c.args.names.now reads refl same;
       progress = ap (λ (s : State). s.progress) a.state;
       worn = ap (λ (s : State). s.worn) a.state;
       seats = c.in_ok-keep_reads.ensures.seats;

@@ -17,15 +17,15 @@ use Rattle.sig_nodes.proofs.Lookups.{names_now, paired_here}
 use Rattle.sig_nodes.proofs.Sources.{numbers_length}
 use Rattle.sig_nodes.proofs.graph.Graph.keep_again.Goals as goal
 
-pub renew_memo_at-former-requires-clause-kept : goal.renew_memo_at-former-requires-clause-kept
-renew_memo_at-former-requires-clause-kept c =
+pub renew_memo_at-requires-clause-kept : goal.renew_memo_at-requires-clause-kept
+renew_memo_at-requires-clause-kept c =
     sym (ap is_some (memo_found c.self.inside.nodes.items c.self.inside.generation c.args.id)) ∙ ap (λ (s : Seen). is_some (memo_of s.state.memos c.args.id)) c.self.view_is ∙ c.requires.kept
 
-pub renew_memo_at-former-requires-clause-numbers : goal.renew_memo_at-former-requires-clause-numbers
-renew_memo_at-former-requires-clause-numbers c =
+pub renew_memo_at-requires-clause-numbers : goal.renew_memo_at-requires-clause-numbers
+renew_memo_at-requires-clause-numbers c =
     let xs = c.self.inside.nodes.items in
     let names = sym (ap (λ m. source_names (sources_in m)) (memo_found xs c.self.inside.generation c.args.id)) ∙ ap (λ (s : Seen). source_names (sources_of s.state.memos c.args.id)) c.self.view_is ∙ c.requires.same in
-    numbers_length (number_at xs) (sources_in (memo_body (body_at xs c.args.id))) c.args.reads.now c.in_ok-numbers.numbers.items names c.in_ok-numbers.ensures
+    numbers_length (number_at xs) (sources_in (memo_body (body_at xs c.args.id))) c.args.reads.now c.deref.result.now names (c.deref.ensures.value ∙ c.in_ok-numbers_now.ensures)
 
 pub end_mark-requires-clause-stands : goal.end_mark-requires-clause-stands
 end_mark-requires-clause-stands c =
@@ -42,12 +42,13 @@ invariant_of-self-2 c =
     let xs = c.self.inside.nodes.items in
     let g = c.self.inside.generation in
     let t = c.self.inside.marks in
-    let o = c.args.outcome in
+    let o = c.args.outcome.now in
     let rs = c.args.reads.now in
     let names = sym (ap (λ m. source_names (sources_in m)) (memo_found xs g c.args.id)) ∙ ap (λ (s : Seen). source_names (sources_of s.state.memos c.args.id)) c.self.view_is ∙ c.requires.same in
-    let memo = ap (λ ss. memo_made o ss g) ((λ i. paired (names i) (c.in_ok-numbers.ensures i)) ∙ paired_here xs g rs) in
+    let numbers = c.deref.ensures.value ∙ c.in_ok-numbers_now.ensures in
+    let memo = ap (λ ss. memo_made o ss g) ((λ i. paired (names i) (numbers i)) ∙ paired_here xs g rs) in
     let made = memo_made o (map (named_now (memos_of g xs)) rs) g in
-    let nodes = c.renew_memo_at-former.ensures ∙ ap (λ (m : Memo). changed_at (run_node m) c.args.id xs) memo in
+    let nodes = c.renew_memo_at.ensures ∙ ap (λ (m : Memo). changed_at (run_node m) c.args.id xs) memo in
     let given = given_below c.args.self.now (state_of xs c.self.inside.generation c.self.inside.looked c.self.inside.worn) c.self.inside.seats.holders (length xs) rs c.self.view_is c.requires.given in
     let named = subst (λ (ns : List ℕ). All (λ m. m < length xs) ns) (sym (names_now (memos_of g xs) rs)) given in
     let on = sym (ap is_some (progress_found c.self.inside.nodes.items c.args.id)) ∙ ap (λ (s : Seen). is_computing s.state c.args.id) c.self.view_is ∙ c.requires.computing in
@@ -59,25 +60,26 @@ invariant_of-self-2 c =
       fields = subst (λ (ys : List Node). NodesAgree ys c.self.inside.seats g (c.self.inside.worn + 1)) (sym nodes) (run_holds made c.args.id xs c.self.inside.seats g c.self.inside.worn named c.self.invariant.fields);
       marks = subst (λ (ys : List Node). KeepsMarks ys g c.end_mark.new.marks) (sym nodes)
           (same_table (changed_at (run_node made) c.args.id xs) g c.end_mark.new.marks t.dependants c.end_mark.new.marks.marked t.stands c.end_mark.ensures.dependants refl c.end_mark.ensures.stands marks);
-      found = raised_kept xs c.renew_memo_at-former.new.nodes.items g g c.self.inside.worn c.self.inside.finds c.self.invariant.found;
+      found = raised_kept xs c.renew_memo_at.new.nodes.items g g c.self.inside.worn c.self.inside.finds c.self.invariant.found;
     }
 
 pub returns-clause-after : goal.returns-clause-after
 returns-clause-after c =
     let xs = c.self.inside.nodes.items in
-    let ys = c.renew_memo_at-former.new.nodes.items in
+    let ys = c.renew_memo_at.new.nodes.items in
     let g = c.self.inside.generation in
     let l = c.self.inside.looked in
     let w = c.self.inside.worn in
     let rs = c.args.reads.now in
     let live = computing_here (body_at c.self.inside.nodes.items c.args.id) (sym (ap is_some (progress_found c.self.inside.nodes.items c.args.id)) ∙ ap (λ (s : Seen). is_computing s.state c.args.id) c.self.view_is ∙ c.requires.computing) in
     let names = sym (ap (λ m. source_names (sources_in m)) (memo_found xs g c.args.id)) ∙ ap (λ (s : Seen). source_names (sources_of s.state.memos c.args.id)) c.self.view_is ∙ c.requires.same in
-    let memo = ap (λ ss. memo_made c.args.outcome ss g) ((λ i. paired (names i) (c.in_ok-numbers.ensures i)) ∙ paired_here xs g rs) in
-    let made = memo_made c.args.outcome (map (named_now (memos_of g xs)) rs) g in
-    let nodes = c.renew_memo_at-former.ensures ∙ ap (λ (m : Memo). changed_at (run_node m) c.args.id xs) memo in
+    let numbers = c.deref.ensures.value ∙ c.in_ok-numbers_now.ensures in
+    let memo = ap (λ ss. memo_made c.args.outcome.now ss g) ((λ i. paired (names i) (numbers i)) ∙ paired_here xs g rs) in
+    let made = memo_made c.args.outcome.now (map (named_now (memos_of g xs)) rs) g in
+    let nodes = c.renew_memo_at.ensures ∙ ap (λ (m : Memo). changed_at (run_node m) c.args.id xs) memo in
     let len = ap length nodes ∙ changed_length (run_node made) c.args.id xs in
-    became c.args.self.now (state_of xs g l w) (state_of ys g l (w + 1)) (with_kept_run c.args.self.now.state c.args.id c.args.outcome rs) c.self.inside.seats.holders c.self.inside.seats.holders (length xs) (length ys) c.self.view_is len
-    (ap (λ zs. state_of zs g l (w + 1)) nodes ∙ run_state xs c.args.id c.args.outcome rs g l w live ∙ ap (λ (s : Seen). with_kept_run s.state c.args.id c.args.outcome rs) c.self.view_is)
+    became c.args.self.now (state_of xs g l w) (state_of ys g l (w + 1)) (with_kept_run c.args.self.now.state c.args.id c.args.outcome.now rs) c.self.inside.seats.holders c.self.inside.seats.holders (length xs) (length ys) c.self.view_is len
+    (ap (λ zs. state_of zs g l (w + 1)) nodes ∙ run_state xs c.args.id c.args.outcome.now rs g l w live ∙ ap (λ (s : Seen). with_kept_run s.state c.args.id c.args.outcome.now rs) c.self.view_is)
 
 pub returns-clause-seats : goal.returns-clause-seats
 returns-clause-seats c = ap (λ (s : Seen). s.seats) c.self.view_is

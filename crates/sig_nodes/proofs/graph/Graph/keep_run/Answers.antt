@@ -20,8 +20,8 @@ use Rattle.sig_nodes.specs.Computations.{paired}
 use Rattle.sig_nodes.proofs.Lookups.{names_now, paired_here}
 use Rattle.sig_nodes.proofs.graph.Graph.keep_run.Goals as goal
 
-pub keep_memo_at-former-requires-clause-live : goal.keep_memo_at-former-requires-clause-live
-keep_memo_at-former-requires-clause-live c = computing_here (body_at c.self.inside.nodes.items c.args.id) (sym (ap is_some (progress_found c.self.inside.nodes.items c.args.id)) ∙ ap (λ (s : Seen). is_computing s.state c.args.id) c.self.view_is ∙ c.requires.computing)
+pub keep_memo_at-requires-clause-live : goal.keep_memo_at-requires-clause-live
+keep_memo_at-requires-clause-live c = computing_here (body_at c.self.inside.nodes.items c.args.id) (sym (ap is_some (progress_found c.self.inside.nodes.items c.args.id)) ∙ ap (λ (s : Seen). is_computing s.state c.args.id) c.self.view_is ∙ c.requires.computing)
 
 pub relink-requires-clause-sources : goal.relink-requires-clause-sources
 relink-requires-clause-sources c =
@@ -64,11 +64,11 @@ invariant_of-self-2 c =
     let t = c.self.inside.marks in
     let o = c.args.outcome in
     let rs = c.args.reads.items in
-    let numbers = c.in_ok-numbers.ensures ∙ ap (map (number_at xs)) c.deref.ensures.value in
+    let numbers = c.in_ok-numbers_now.ensures ∙ ap (map (number_at xs)) c.deref.ensures.value in
     let sources = ap (paired rs) numbers ∙ paired_here xs g rs in
     let memo = c.new-memo.ensures ∙ ap (λ ss. memo_made o ss g) sources in
     let made = memo_made o (map (named_now (memos_of g xs)) rs) g in
-    let nodes = c.keep_memo_at-former.ensures ∙ ap (λ (m : Memo). changed_at (run_node m) c.args.id xs) memo in
+    let nodes = c.keep_memo_at.ensures ∙ ap (λ (m : Memo). changed_at (run_node m) c.args.id xs) memo in
     let given = given_below c.args.self.now (state_of xs g c.self.inside.looked c.self.inside.worn) c.self.inside.seats.holders (length xs) rs c.self.view_is c.requires.given in
     let named = subst (λ (ns : List ℕ). All (λ m. m < length xs) ns) (sym (names_now (memos_of g xs) rs)) given in
     let on = sym (ap is_some (progress_found c.self.inside.nodes.items c.args.id)) ∙ ap (λ (s : Seen). is_computing s.state c.args.id) c.self.view_is ∙ c.requires.computing in
@@ -81,22 +81,22 @@ invariant_of-self-2 c =
       fields = subst (λ (ys : List Node). NodesAgree ys c.self.inside.seats g (c.self.inside.worn + 1)) (sym nodes) (run_holds made c.args.id xs c.self.inside.seats g c.self.inside.worn named c.self.invariant.fields);
       marks = subst (λ (ys : List Node). KeepsMarks ys g c.end_mark.new.marks) (sym nodes)
           (same_table (changed_at (run_node made) c.args.id xs) g c.end_mark.new.marks c.relink.new.marks.dependants c.end_mark.new.marks.marked t.stands c.end_mark.ensures.dependants refl (c.end_mark.ensures.stands ∙ c.relink.ensures.stands) marks);
-      found = raised_kept xs c.keep_memo_at-former.new.nodes.items g g c.self.inside.worn c.self.inside.finds c.self.invariant.found;
+      found = raised_kept xs c.keep_memo_at.new.nodes.items g g c.self.inside.worn c.self.inside.finds c.self.invariant.found;
     }
 
 pub returns-clause-after : goal.returns-clause-after
 returns-clause-after c =
     let xs = c.self.inside.nodes.items in
-    let ys = c.keep_memo_at-former.new.nodes.items in
+    let ys = c.keep_memo_at.new.nodes.items in
     let g = c.self.inside.generation in
     let l = c.self.inside.looked in
     let w = c.self.inside.worn in
     let live = computing_here (body_at c.self.inside.nodes.items c.args.id) (sym (ap is_some (progress_found c.self.inside.nodes.items c.args.id)) ∙ ap (λ (s : Seen). is_computing s.state c.args.id) c.self.view_is ∙ c.requires.computing) in
-    let numbers = c.in_ok-numbers.ensures ∙ ap (map (number_at xs)) c.deref.ensures.value in
+    let numbers = c.in_ok-numbers_now.ensures ∙ ap (map (number_at xs)) c.deref.ensures.value in
     let sources = ap (paired c.args.reads.items) numbers ∙ paired_here xs g c.args.reads.items in
     let memo = c.new-memo.ensures ∙ ap (λ ss. memo_made c.args.outcome ss g) sources in
     let made = memo_made c.args.outcome (map (named_now (memos_of g xs)) c.args.reads.items) g in
-    let nodes = c.keep_memo_at-former.ensures ∙ ap (λ (m : Memo). changed_at (run_node m) c.args.id xs) memo in
+    let nodes = c.keep_memo_at.ensures ∙ ap (λ (m : Memo). changed_at (run_node m) c.args.id xs) memo in
     let len = ap length nodes ∙ changed_length (run_node made) c.args.id xs in
     became c.args.self.now (state_of xs g l w) (state_of ys g l (w + 1)) (with_kept_run c.args.self.now.state c.args.id c.args.outcome c.args.reads.items) c.self.inside.seats.holders c.self.inside.seats.holders (length xs) (length ys) c.self.view_is len
     (ap (λ zs. state_of zs g l (w + 1)) nodes ∙ run_state xs c.args.id c.args.outcome c.args.reads.items g l w live ∙ ap (λ (s : Seen). with_kept_run s.state c.args.id c.args.outcome c.args.reads.items) c.self.view_is)
