@@ -1,5 +1,6 @@
 pub mod Notes
 pub mod Asked
+pub mod Lessons
 pub mod Views
 pub mod Turns
 pub mod Steps

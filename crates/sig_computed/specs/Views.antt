@@ -1,5 +1,5 @@
 -- How contracts see the frames of the code, and the graph that they stand on.
-use Rattle.std.specs.Prelude.{◌≡◌, ℕ, ◌+◌, ◌≤◌, Bool, true, false, List, [], ◌∷◌, map, reverse, Option, Some, None, if◌then◌else◌}
+use Rattle.std.specs.Prelude.{◌≡◌, ℕ, ◌+◌, ◌≤◌, Bool, true, false, List, [], ◌∷◌, ◌++◌, map, reverse, Option, Some, None, if◌then◌else◌}
 use Rattle.sig_base.specs.declared.value.Outcome.{Outcome}
 use Rattle.sig_base.specs.declared.value.Outcome.TheVariants.{Bad}
 use Rattle.sig_base.specs.declared.value.Fault.TheVariants.{Cycle}
@@ -10,8 +10,7 @@ use Rattle.signal_model.specs.Memos.{Source, Memos, is_moved}
 use Rattle.sig_nodes.specs.States as states
 use Rattle.sig_nodes.specs.States.{State, Progress, is_computing}
 use Rattle.sig_computed.specs.Steps.{Phase, Looking, LookedAt, Running, Waiting, Frame, Move, GoesOn, Needs, Stops, Ends}
-use Rattle.sig_computed.specs.declared.frames.Read.{Read}
-use Rattle.sig_computed.specs.declared.frames.Learnt.{Learnt}
+use Rattle.sig_computed.specs.Lessons.{Lesson}
 use Rattle.sig_computed.specs.declared.frames.Doing.{Doing}
 use Rattle.sig_computed.specs.declared.frames.Doing.TheVariants as doing
 use Rattle.std.specs.declared.boxed.Box.{Box}
@@ -20,16 +19,12 @@ use Rattle.sig_computed.specs.declared.frames.Outer.{Outer}
 use Rattle.sig_computed.specs.declared.frames.Turn.{Turn}
 use Rattle.sig_computed.specs.declared.frames.Turn.TheVariants as turn
 
--- a source that was read
-abbrev pub seen_of : Read → Seen
-seen_of r = record { name = r.id; outcome = r.outcome }
-
 -- what a frame is doing, by what it has learnt
-abbrev pub phase_of : Doing → Learnt → Phase
+abbrev pub phase_of : Doing → Lesson → Phase
 phase_of (doing.Looking place) l = Looking place
 phase_of (doing.LookedAt place) l = LookedAt place
-phase_of doing.Running l = Running l.known.items (map seen_of l.reads.items)
-phase_of (doing.Waiting slot) l = Waiting slot l.known.items (map seen_of l.reads.items)
+phase_of doing.Running l = Running l.known l.reads
+phase_of (doing.Waiting slot) l = Waiting slot l.known l.reads
 
 -- a frame
 abbrev pub frame_of : Open → Frame
@@ -43,7 +38,7 @@ blank_phase doing.Running = Running [] []
 blank_phase (doing.Waiting slot) = Waiting slot [] []
 
 -- what a computed that waits is doing, by what it has learnt, if anything
-abbrev pub outer_phase : {Z : Type 0} → Doing → Option (Box Learnt Z) → Phase
+abbrev pub outer_phase : {Z : Type 0} → Doing → Option (Box Lesson Z) → Phase
 outer_phase d None = blank_phase d
 outer_phase d (Some l) = phase_of d l.value
 
@@ -52,15 +47,20 @@ abbrev pub outer_of : Outer → Frame
 outer_of f = record { name = f.id; phase = outer_phase f.doing f.learnt }
 
 -- a run that has come to its end
-abbrev pub evaluation_of : List Read → Outcome → Evaluation
-evaluation_of rs o = record { reads = map seen_of rs; outcome = o }
+abbrev pub evaluation_of : List Seen → Outcome → Evaluation
+evaluation_of rs o = record { reads = rs; outcome = o }
+
+-- what was read, and behind it a source that ended the run
+abbrev pub reads_until : List Seen → ℕ → Outcome → List Seen
+reads_until rs n o = rs ++ record { name = n; outcome = o } ∷ []
 
 -- what a step comes to that leaves a frame as it is
 abbrev pub move_of : Turn → Open → Move
 move_of turn.GoesOn f = GoesOn (phase_of f.doing f.learnt)
 move_of turn.Needs f = Needs f.needed (phase_of f.doing f.learnt)
 move_of turn.Stops f = Stops
-move_of turn.Ends f = Ends (evaluation_of f.learnt.reads.items f.outcome)
+move_of turn.Ends f = Ends (evaluation_of f.learnt.reads f.outcome)
+move_of turn.Falls f = Ends (evaluation_of (reads_until f.learnt.reads f.needed f.outcome) f.outcome)
 
 -- the frames that wait, the innermost first
 abbrev pub tops : List Outer → List Frame

@@ -1,24 +1,33 @@
 // The frames of computeds that are being evaluated, and what one step of a frame comes to.
-ghost use Rattle.std.specs.Prelude.{◌≡◌, [], ◌∷◌, IfOk, OnOk};
+ghost use Rattle.std.specs.Prelude.{◌≡◌, ◌++◌, [], ◌∷◌, IfOk, OnOk};
+ghost use Rattle.sig_base.specs.declared.value.Outcome.TheVariants.{Good};
+ghost use Rattle.signal_model.specs.Sound.{names_of};
+ghost use Rattle.signal_model.specs.Values.{learnt};
 ghost use Rattle.sig_computed.specs.Steps.{Running};
 ghost use Rattle.sig_computed.specs.Views.{blank_phase, frame_of, held, outer_of, outer_phase, phase_of, tops};
 
-use sig_base::{Fault, Known, NoMemory, NodeId, Outcome};
+use sig_base::{Fault, Known, NoMemory, NodeId, Outcome, Value};
 use std::alloc::Global;
+use std::marker::Model;
 use std::mem;
 
-/// A source that was read.
-#[derive(Drop)]
-pub(crate) struct Read {
-    pub(crate) id: NodeId,
-    pub(crate) outcome: Outcome,
-}
-
-/// What a run has learnt: the slots that are known, and what was read.
+/// What a run has learnt: the slots that are known, and what was read. A source that is read makes a slot known, or else ends the run, so
+/// that the ids are enough: what each was read as is the value of its slot.
 #[derive(Drop)]
 pub(crate) struct Learnt {
-    pub(crate) known: Vec<Known>,
-    pub(crate) reads: Vec<Read>,
+    known: Vec<Known>,
+    reads: Vec<NodeId>,
+}
+
+impl Model for Learnt {
+    ghost use Rattle.std.specs.Prelude.{length};
+    ghost use Rattle.sig_computed.specs.Lessons.{Lesson, good_seen};
+
+    ghost Value = { Lesson };
+
+    ghost view = { λ l. record { known = l.known.items; reads = good_seen l.reads.items l.known.items } };
+
+    ghost invariant = { λ l. length l.reads.items ≡ length l.known.items };
 }
 
 /// What the frame of a computed is doing.
@@ -40,7 +49,7 @@ pub(crate) struct Open {
     pub(crate) id: NodeId,
     pub(crate) doing: Doing,
     pub(crate) learnt: Learnt,
-    /// The signal that has to be settled first, where the turn says so.
+    /// The signal that has to be settled first, or the source that ended the run, where the turn says so.
     pub(crate) needed: NodeId,
     /// What its run came to, where the turn says so.
     pub(crate) outcome: Outcome,
@@ -64,6 +73,8 @@ pub(crate) enum Turn {
     Stops,
     /// It has run: the frame has what it read, and what it came to.
     Ends,
+    /// A source that it read ended the run: the frame tells this one, and what it was read as.
+    Falls,
 }
 
 impl Learnt {
@@ -73,6 +84,42 @@ impl Learnt {
             known: Vec::new(alloc),
             reads: Vec::new(alloc),
         }
+    }
+
+    /// The slots that are known.
+    pub(crate) fn known(&self) -> &[Known]
+        ensures { result.now ≡ self.now.known }
+    {
+        &self.known
+    }
+
+    /// The signals that were read.
+    pub(crate) fn reads(&self) -> &[NodeId]
+        ensures { result.now ≡ names_of self.now.reads }
+    {
+        &self.reads
+    }
+
+    /// A signal was read as a good value, which makes a slot known.
+    pub(crate) fn learn(&mut self, id: NodeId, slot: u32, value: Value) -> Result<(), NoMemory>
+        ensures known { OnOk result (self.new.known ≡ learnt self.old.known slot value) }
+        ensures reads { OnOk result (self.new.reads ≡ self.old.reads ++ (record { name = id; outcome = Good value }) ∷ []) }
+    {
+        self.known.reserve(1)?;
+        self.reads.push(id)?;
+        match self.known.push(Known { slot, value }) {
+            Ok(_) => Ok(()),
+            Err(_) => unreachable!(),
+        }
+    }
+
+    // It has learnt nothing. The lists keep their room, so that what is learnt next asks for no memory where that had enough.
+    fn forget(&mut self)
+        ensures known { self.new.known ≡ [] }
+        ensures reads { self.new.reads ≡ [] }
+    {
+        self.known.clear();
+        self.reads.clear();
     }
 }
 
@@ -91,21 +138,12 @@ impl Open {
     }
 }
 
-// It has learnt nothing. The lists keep their room, so that what is learnt next asks for no memory where that had enough.
-fn forget(learnt: &mut Learnt)
-    ensures known { learnt.new.known.items ≡ [] }
-    ensures reads { learnt.new.reads.items ≡ [] }
-{
-    learnt.known.clear();
-    learnt.reads.clear();
-}
-
 /// A frame begins to run.
 pub(crate) fn begin_run(frame: &mut Open)
     ensures id { frame.new.id ≡ frame.old.id }
     ensures phase { phase_of frame.new.doing frame.new.learnt ≡ Running [] [] }
 {
-    forget(&mut frame.learnt);
+    frame.learnt.forget();
     frame.doing = Doing::Running;
 }
 
@@ -157,7 +195,7 @@ fn take_nothing(doing: Doing, learnt: &mut Learnt)
     match doing {
         Doing::Looking(_) => {}
         Doing::LookedAt(_) => {}
-        _ => forget(learnt),
+        _ => learnt.forget(),
     }
 }
 

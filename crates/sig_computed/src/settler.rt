@@ -1,6 +1,7 @@
 // Settling by a loop over a stack of frames, so its depth rests on no machine stack.
 ghost use Rattle.std.specs.Prelude.{◌≡◌, ◌+◌, ◌*◌, ◌<◌, ◌≤◌, ◌^◌, ◌++◌, ◌∷◌, ℕ, [], List, true, false, None, Some, IfOk, IfSome, OnOk, map, reverse, length, vec_len};
 ghost use Rattle.std.specs.List.{All};
+ghost use Rattle.sig_base.specs.declared.value.Outcome.{Outcome};
 ghost use Rattle.signal_model.specs.Recipes.{Hosts};
 ghost use Rattle.signal_model.specs.Signals.{is_computed, is_in, standing};
 ghost use Rattle.signal_model.specs.Values.{value_of, Seen};
@@ -12,10 +13,10 @@ ghost use Rattle.sig_host.specs.Hosts.{most_asked};
 ghost use Rattle.sig_computed.specs.Asked.{AreThere};
 ghost use Rattle.sig_computed.specs.Notes.{note_of, HasRoom, IsIdle};
 ghost use Rattle.sig_computed.specs.Scenes.{scene, CanSettle, Settles};
-ghost use Rattle.sig_computed.specs.Views.{evaluating, evaluation_of, frame_of, held, move_of, progressed, seen_of, tops, Stays};
+ghost use Rattle.sig_computed.specs.Views.{evaluating, evaluation_of, frame_of, held, move_of, progressed, reads_until, tops, Stays};
 ghost use Rattle.sig_computed.specs.Turns.{evaluation_note, first_stack, notes_of, stack_after, visited_after, AreReadsGiven, CanMove, HasFirst, IsKept, IsMoved};
 
-use crate::frames::{Doing, Open, Outer, Read, Turn, begin_run, go_in, go_out};
+use crate::frames::{Doing, Learnt, Open, Outer, Turn, begin_run, go_in, go_out};
 use crate::notes::RunNote;
 use crate::turns::{is_clean, outcome_of, turn_of};
 use crate::visited::Visited;
@@ -39,14 +40,22 @@ fn begin(graph: &mut Graph, frame: &mut Open)
     frame.doing = Doing::Looking(0);
 }
 
-// The names of what was read.
-fn names(alloc: Global, reads: &[Read]) -> Result<Vec<NodeId>, NoMemory>
-    ensures { IfOk result (λ v. v.items ≡ names_of (map seen_of reads.now)) }
+// What was read, in a list of its own.
+fn names(alloc: Global, learnt: &Learnt) -> Result<Vec<NodeId>, NoMemory>
+    ensures { IfOk result (λ v. v.items ≡ names_of learnt.now.reads) }
 {
+    let reads = learnt.reads();
     let mut all = Vec::with_capacity(alloc, reads.len())?;
-    for read in reads {
-        all.push(read.id)?;
-    }
+    all.extend_from_slice(reads)?;
+    Ok(all)
+}
+
+// The same, and behind it the source that ended the run.
+fn names_until(alloc: Global, learnt: &Learnt, last: NodeId) -> Result<Vec<NodeId>, NoMemory>
+    ensures { (outcome : Outcome) → IfOk result (λ v. v.items ≡ names_of (reads_until learnt.now.reads last outcome)) }
+{
+    let mut all = names(alloc, learnt)?;
+    all.push(last)?;
     Ok(all)
 }
 
@@ -66,22 +75,20 @@ fn keep_in(
     Ok(())
 }
 
-// Keeps a run, and notes it: its outcome is copied for the note alone.
+// Keeps a run by the names of what it read, and notes it: its outcome is copied for the note alone.
 fn keep(
-    alloc: Global,
     graph: &mut Graph,
     notes: &mut Vec<RunNote>,
     node: NodeId,
-    reads: &[Read],
+    reads: Vec<NodeId>,
     outcome: &mut Outcome,
 ) -> Result<(), NoMemory>
     requires computing { is_computing graph.old.state node ≡ true }
-    requires given { AreReadsGiven graph.old (map seen_of reads.now) }
+    requires given { All (λ n. is_given graph.old n ≡ true) reads.items }
     requires worn { CanWear graph.old.state }
-    ensures after { OnOk result (IsKept graph.old graph.new node (evaluation_of reads.now outcome.old)) }
-    ensures notes { OnOk result (map note_of notes.new.items ≡ map note_of notes.old.items ++ evaluation_note node (evaluation_of reads.now outcome.old) ∷ []) }
+    ensures after { OnOk result ((seen : List Seen) → reads.items ≡ names_of seen → IsKept graph.old graph.new node (evaluation_of seen outcome.old)) }
+    ensures notes { OnOk result (map note_of notes.new.items ≡ map note_of notes.old.items ++ (record { name = node; reads = reads.items; outcome = outcome.old }) ∷ []) }
 {
-    let reads = names(alloc, reads)?;
     let noted = outcome.copy()?;
     keep_in(graph, node, &reads, outcome)?;
     notes.push(RunNote {
@@ -89,6 +96,44 @@ fn keep(
         reads,
         outcome: noted,
     })?;
+    Ok(())
+}
+
+// Keeps the run of a frame that has come to its end.
+fn keep_ended(
+    alloc: Global,
+    graph: &mut Graph,
+    notes: &mut Vec<RunNote>,
+    frame: &mut Open,
+) -> Result<(), NoMemory>
+    requires computing { is_computing graph.old.state frame.old.id ≡ true }
+    requires given { AreReadsGiven graph.old frame.old.learnt.reads }
+    requires worn { CanWear graph.old.state }
+    ensures after { OnOk result (IsKept graph.old graph.new frame.old.id (evaluation_of frame.old.learnt.reads frame.old.outcome)) }
+    ensures notes { OnOk result (map note_of notes.new.items ≡ map note_of notes.old.items ++ evaluation_note frame.old.id (evaluation_of frame.old.learnt.reads frame.old.outcome) ∷ []) }
+    ensures id { OnOk result (frame.new.id ≡ frame.old.id) }
+{
+    let names = names(alloc, &frame.learnt)?;
+    keep(graph, notes, frame.id, names, &mut frame.outcome)?;
+    Ok(())
+}
+
+// Keeps the run of a frame that a source has ended, which was read last.
+fn keep_fallen(
+    alloc: Global,
+    graph: &mut Graph,
+    notes: &mut Vec<RunNote>,
+    frame: &mut Open,
+) -> Result<(), NoMemory>
+    requires computing { is_computing graph.old.state frame.old.id ≡ true }
+    requires given { AreReadsGiven graph.old (reads_until frame.old.learnt.reads frame.old.needed frame.old.outcome) }
+    requires worn { CanWear graph.old.state }
+    ensures after { OnOk result (IsKept graph.old graph.new frame.old.id (evaluation_of (reads_until frame.old.learnt.reads frame.old.needed frame.old.outcome) frame.old.outcome)) }
+    ensures notes { OnOk result (map note_of notes.new.items ≡ map note_of notes.old.items ++ evaluation_note frame.old.id (evaluation_of (reads_until frame.old.learnt.reads frame.old.needed frame.old.outcome) frame.old.outcome) ∷ []) }
+    ensures id { OnOk result (frame.new.id ≡ frame.old.id) }
+{
+    let names = names_until(alloc, &frame.learnt, frame.needed)?;
+    keep(graph, notes, frame.id, names, &mut frame.outcome)?;
     Ok(())
 }
 
@@ -124,14 +169,12 @@ fn apply(
             Ok(go_out(stack, frame))
         }
         Turn::Ends => {
-            keep(
-                alloc,
-                graph,
-                notes,
-                frame.id,
-                &frame.learnt.reads,
-                &mut frame.outcome,
-            )?;
+            keep_ended(alloc, graph, notes, frame)?;
+            visited.add(frame.id)?;
+            Ok(go_out(stack, frame))
+        }
+        Turn::Falls => {
+            keep_fallen(alloc, graph, notes, frame)?;
             visited.add(frame.id)?;
             Ok(go_out(stack, frame))
         }

@@ -9,11 +9,11 @@ ghost use Rattle.signal_model.specs.Sound.{standing_outcome};
 ghost use Rattle.sig_nodes.specs.Answers.{answer_here, host_here, slots_here, IsAnswerHere, IsJudgedAnswer};
 ghost use Rattle.sig_nodes.specs.States.{is_given, progress_at, GoesOn};
 ghost use Rattle.sig_computed.specs.Steps.{answered, decided, is_ready, looked, ready_outcome, slot_read};
-ghost use Rattle.sig_computed.specs.Views.{evaluating, first_moved, first_name, frame_of, move_of, or_cycle, phase_of, progressed, seen_of, Stays};
+ghost use Rattle.sig_computed.specs.Views.{evaluating, first_moved, first_name, frame_of, move_of, or_cycle, phase_of, progressed, Stays};
 ghost use Rattle.sig_computed.specs.Asked.{asked_once, places_by, CanAsk};
 ghost use Rattle.sig_computed.specs.Turns.{move_by, move_reads, progress_by, turn_steps, waits, AreReadsGiven, Fits, IsAnswered, IsMove};
 
-use crate::frames::{Doing, Open, Read, Turn, begin_run};
+use crate::frames::{Doing, Open, Turn, begin_run};
 use crate::visited::Visited;
 use sig_base::{Known, NoMemory, NodeId, Outcome, Step};
 use sig_host::{Lent, Shelf};
@@ -114,30 +114,21 @@ pub(crate) fn outcome_of(graph: &Graph, id: NodeId) -> Result<Outcome, NoMemory>
     graph.shown(id)
 }
 
-// A source is read as an outcome: it stands behind what was read before.
-fn add_read(reads: &mut Vec<Read>, id: NodeId, outcome: &Outcome) -> Result<(), NoMemory>
-    ensures { OnOk result (map seen_of reads.new.items ≡ map seen_of reads.old.items ++ (record { name = id; outcome = outcome.now }) ∷ []) }
-{
-    let outcome = outcome.copy()?;
-    reads.push(Read { id, outcome })?;
-    Ok(())
-}
-
 // A slot is read as an outcome: a good value is told to the recipe, and a fault ends the run.
 fn tell(frame: &mut Open, slot: u32, id: NodeId, outcome: Outcome) -> Result<Turn, NoMemory>
-    ensures turn { IfOk result (λ t. move_of t frame.new ≡ slot_read slot id (Some outcome) frame.old.learnt.known.items (map seen_of frame.old.learnt.reads.items)) }
+    ensures turn { IfOk result (λ t. move_of t frame.new ≡ slot_read slot id (Some outcome) frame.old.learnt.known frame.old.learnt.reads) }
     ensures id { OnOk result (frame.new.id ≡ frame.old.id) }
 {
-    add_read(&mut frame.learnt.reads, id, &outcome)?;
     match outcome {
         Outcome::Good(value) => {
-            frame.learnt.known.push(Known { slot, value })?;
+            frame.learnt.learn(id, slot, value)?;
             frame.doing = Doing::Running;
             Ok(Turn::GoesOn)
         }
         Outcome::Bad(fault) => {
+            frame.needed = id;
             frame.outcome = Outcome::Bad(fault);
-            Ok(Turn::Ends)
+            Ok(Turn::Falls)
         }
     }
 }
@@ -162,8 +153,8 @@ fn wait(
     slot: u32,
 ) -> Result<Turn, NoMemory>
     requires slot { slot < length (slots_here (standing graph.old.state.signals frame.old.id)) }
-    requires given { AreReadsGiven graph.old (map seen_of frame.old.learnt.reads.items) }
-    ensures turn { IfOk result (λ t. move_of t frame.new ≡ waits graph.old.state.signals graph.old.state.memos (evaluating graph.old.state) (passed_over graph.old.state.signals graph.old.state.memos visited.old) slot (slice_index (slots_here (standing graph.old.state.signals frame.old.id)) slot) frame.old.learnt.known.items (map seen_of frame.old.learnt.reads.items)) }
+    requires given { AreReadsGiven graph.old frame.old.learnt.reads }
+    ensures turn { IfOk result (λ t. move_of t frame.new ≡ waits graph.old.state.signals graph.old.state.memos (evaluating graph.old.state) (passed_over graph.old.state.signals graph.old.state.memos visited.old) slot (slice_index (slots_here (standing graph.old.state.signals frame.old.id)) slot) frame.old.learnt.known frame.old.learnt.reads) }
     ensures id { OnOk result (frame.new.id ≡ frame.old.id) }
     ensures given { IfOk result (λ t. AreReadsGiven graph.old (move_reads (move_of t frame.new))) }
     ensures after { OnOk result (Stays graph.old graph.new graph.old.state.progress (look_steps (standing graph.old.state.signals (slice_index (slots_here (standing graph.old.state.signals frame.old.id)) slot)) (is_in (slice_index (slots_here (standing graph.old.state.signals frame.old.id)) slot) (evaluating graph.old.state)) (is_in (slice_index (slots_here (standing graph.old.state.signals frame.old.id)) slot) visited.old))) }
@@ -183,7 +174,7 @@ fn wait(
 
 // A recipe has answered.
 fn answered(frame: &mut Open, answer: Step) -> Turn
-    ensures turn { move_of result frame.new ≡ answered answer frame.old.learnt.known.items (map seen_of frame.old.learnt.reads.items) }
+    ensures turn { move_of result frame.new ≡ answered answer frame.old.learnt.known frame.old.learnt.reads }
     ensures id { frame.new.id ≡ frame.old.id }
 {
     match answer {
@@ -240,21 +231,21 @@ fn run(
     shelf: &mut Shelf,
     frame: &mut Open,
 ) -> Result<Turn, NoMemory>
-    requires known { GoesOn (progress_at frame.old.id graph.old.state.progress) frame.old.learnt.known.items }
-    requires given { AreReadsGiven graph.old (map seen_of frame.old.learnt.reads.items) }
+    requires known { GoesOn (progress_at frame.old.id graph.old.state.progress) frame.old.learnt.known }
+    requires given { AreReadsGiven graph.old frame.old.learnt.reads }
     requires counted { ⟦<Shelf as Lent>⟧.counted shelf.old }
     requires host { CanAsk (host_here (standing graph.old.state.signals frame.old.id)) (⟦<Shelf as Lent>⟧.asked shelf.old) }
-    ensures turn { (hosts : Hosts) → ⟦<Shelf as Lent>⟧.answers hosts shelf.old → IfOk result (λ t. move_of t frame.new ≡ answered (answer_here hosts (standing graph.old.state.signals frame.old.id) frame.old.learnt.known.items) frame.old.learnt.known.items (map seen_of frame.old.learnt.reads.items)) }
+    ensures turn { (hosts : Hosts) → ⟦<Shelf as Lent>⟧.answers hosts shelf.old → IfOk result (λ t. move_of t frame.new ≡ answered (answer_here hosts (standing graph.old.state.signals frame.old.id) frame.old.learnt.known) frame.old.learnt.known frame.old.learnt.reads) }
     ensures id { OnOk result (frame.new.id ≡ frame.old.id) }
-    ensures some { IfOk result (λ t. IsAnswered (slots_here (standing graph.old.state.signals frame.old.id)) frame.old.learnt.known.items (map seen_of frame.old.learnt.reads.items) (move_of t frame.new)) }
+    ensures some { IfOk result (λ t. IsAnswered (slots_here (standing graph.old.state.signals frame.old.id)) frame.old.learnt.known frame.old.learnt.reads (move_of t frame.new)) }
     ensures given { IfOk result (λ t. AreReadsGiven graph.old (move_reads (move_of t frame.new))) }
-    ensures after { OnOk result (Stays graph.old graph.new (progressed frame.old.id (Some frame.old.learnt.known.items) graph.old.state.progress) 1) }
+    ensures after { OnOk result (Stays graph.old graph.new (progressed frame.old.id (Some frame.old.learnt.known) graph.old.state.progress) 1) }
     ensures answers { (hosts : Hosts) → ⟦<Shelf as Lent>⟧.answers hosts shelf.old → OnOk result (⟦<Shelf as Lent>⟧.answers hosts shelf.new) }
     ensures counted { OnOk result (⟦<Shelf as Lent>⟧.counted shelf.new) }
     ensures asked { OnOk result (⟦<Shelf as Lent>⟧.asked shelf.new ≡ asked_once (host_here (standing graph.old.state.signals frame.old.id)) (⟦<Shelf as Lent>⟧.asked shelf.old)) }
 {
-    let asked = graph.recipe(frame.id, &frame.learnt.known)?;
-    let answer = answer_of(alloc, graph, shelf, frame.id, asked, &frame.learnt.known)?;
+    let asked = graph.recipe(frame.id, frame.learnt.known())?;
+    let answer = answer_of(alloc, graph, shelf, frame.id, asked, frame.learnt.known())?;
     Ok(answered(frame, answer))
 }
 
