@@ -2,20 +2,23 @@
 use Rattle.std.proofs.Common.{◌≡◌, ℕ, ◌+◌, Bool, true, false, List, [], length, Option, Some, None, Result, Ok, Err, OnOk, refl, sym, ap, ◌∙◌, subst}
 use Rattle.std.specs.Prelude.{◌&&◌, cond, not}
 use Rattle.sig_base.specs.declared.value.Outcome.{Outcome}
-use Rattle.sig_base.specs.declared.value.Outcome.TheVariants.{Bad}
+use Rattle.sig_base.specs.declared.value.Outcome.TheVariants.{Good, Bad}
 use Rattle.sig_base.specs.declared.value.Fault.TheVariants.{Cycle}
 use Rattle.sig_base.specs.declared.value.Known.{Known}
 use Rattle.sig_base.specs.declared.value.Step.{Step}
-use Rattle.signal_model.specs.Recipes.{Expression, Hosts, formula, given_answer, host, judged}
+use Rattle.sig_base.specs.declared.value.Step.TheVariants.{Read}
+use Rattle.sig_formula.specs.Evaluation.{step_by}
+use Rattle.signal_model.specs.Recipes.{Expression, Hosts, formula, given_answer, host, judged, IsJudged}
 use Rattle.sig_nodes.specs.declared.answers.Asked.{Asked}
-use Rattle.sig_nodes.specs.declared.answers.Asked.TheVariants.{Host as HostAsked}
+use Rattle.sig_nodes.specs.declared.answers.Asked.TheVariants.{Slot as SlotAsked, Ended, Host as HostAsked}
 use Rattle.signal_model.specs.Signals.{Stands, IsGone, IsCell, IsComputed, is_computed}
 use Rattle.signal_model.specs.Memos.{Memo}
+use Rattle.signal_model.specs.Values.{Seen}
 use Rattle.signal_model.specs.Sound.{kept_outcome, outcome_here}
 use Rattle.sig_nodes.specs.declared.answers.Standing.TheVariants.{Computed}
-use Rattle.sig_nodes.specs.Answers.{answer_here, host_place, kind_here, shown_computed, shown_here, slots_here, IsAnswerHere}
-use Rattle.sig_computed.specs.Steps.{Running, Looking, GoesOn, is_ready, ready_outcome, decided}
-use Rattle.sig_computed.specs.Views.{or_cycle}
+use Rattle.sig_nodes.specs.Answers.{answer_here, host_here, host_place, kind_here, shown_computed, shown_here, slots_here, IsAnswerHere}
+use Rattle.sig_computed.specs.Steps.{Running, Looking, GoesOn, Ends, answered, is_ready, ready_outcome, decided}
+use Rattle.sig_computed.specs.Views.{evaluation_of, or_cycle}
 
 -- what is answered as a computed is one
 pub kind_computed : (st : Stands) (b : Bool) → Computed ≡ kind_here st b → is_computed st ≡ true
@@ -60,19 +63,54 @@ pub decided_still : (cycle moved : Bool) (place : ℕ) → (not cycle && moved) 
 decided_still cycle moved place m = sym (ap (λ b. cond b (GoesOn (Running [] [])) (GoesOn (Looking (place + 1)))) m)
 
 -- a host formula's answer, judged, is that of the recipe
-pub host_answer : (hosts : Hosts) (st : Stands) (known : List Known) (a : Asked) (place : ℕ) (slots : List ℕ) (step s : Step) → a ≡ HostAsked place → IsAnswerHere st known a →
+pub host_answer : (hosts : Hosts) (st : Stands) (known : List Known) (place : ℕ) (slots : List ℕ) (step s : Step) → host_here st ≡ Some place →
     step ≡ hosts place known → slots ≡ slots_here st → s ≡ judged (length slots) known step → s ≡ answer_here hosts st known
-host_answer hosts st known a place slots step s is here given same answer = go st (subst (IsAnswerHere st known) is here) same
+host_answer hosts IsGone known place slots step s is given same answer = cc
+host_answer hosts (IsCell c) known place slots step s is given same answer = cc
+host_answer hosts (IsComputed c) known place slots step s is given same answer =
+    answer ∙ ap (λ l. judged (length l) known step) same ∙ ap (judged (length c.recipe.slots) known) (given ∙ by c.recipe.expression is)
   where
-    go : (x : Stands) → IsAnswerHere x known (HostAsked place) → slots ≡ slots_here x → s ≡ answer_here hosts x known
-    go IsGone h e = absurd h
-    go (IsCell c) h e = absurd h
-    go (IsComputed c) h e =
-        answer ∙ ap (λ l. judged (length l) known step) e ∙ ap (judged (length c.recipe.slots) known) (given ∙ by c.recipe.expression h)
-      where
-        by : (x : Expression) → host_place x ≡ Some place → hosts place known ≡ given_answer hosts x known
-        by (formula row t) q = cc
-        by (host p) q = let same : p ≡ place = cc in ap (λ n. hosts n known) (sym same)
+    by : (x : Expression) → host_place x ≡ Some place → hosts place known ≡ given_answer hosts x known
+    by (formula row t) q = cc
+    by (host p) q = let same : p ≡ place = cc in ap (λ n. hosts n known) (sym same)
+
+-- a formula needs a slot
+pub slot_answer : (st : Stands) (known : List Known) (a : Asked) (o : Outcome) (slot : ℕ) → a ≡ SlotAsked slot → IsAnswerHere st known a o →
+    (host_here st ≡ None) × ((hosts : Hosts) → Read slot ≡ answer_here hosts st known)
+slot_answer st known a o slot is h = go st (subst (λ b. IsAnswerHere st known b o) is h)
+  where
+    go : (x : Stands) → IsAnswerHere x known (SlotAsked slot) o → (host_here x ≡ None) × ((hosts : Hosts) → Read slot ≡ answer_here hosts x known)
+    go IsGone h = absurd h
+    go (IsCell c) h = absurd h
+    go (IsComputed c) h = h
+
+-- a formula has come to an outcome
+pub end_answer : (st : Stands) (known : List Known) (a : Asked) (o : Outcome) → a ≡ Ended → IsAnswerHere st known a o →
+    (host_here st ≡ None) × ((hosts : Hosts) → step_by None o ≡ answer_here hosts st known)
+end_answer st known a o is h = go st (subst (λ b. IsAnswerHere st known b o) is h)
+  where
+    go : (x : Stands) → IsAnswerHere x known Ended o → (host_here x ≡ None) × ((hosts : Hosts) → step_by None o ≡ answer_here hosts x known)
+    go IsGone h = absurd h
+    go (IsCell c) h = absurd h
+    go (IsComputed c) h = h
+
+-- a host formula is asked
+pub asks_host : (st : Stands) (known : List Known) (a : Asked) (o : Outcome) (place : ℕ) → a ≡ HostAsked place → IsAnswerHere st known a o → host_here st ≡ Some place
+asks_host st known a o place is h = go st (subst (λ b. IsAnswerHere st known b o) is h)
+  where
+    go : (x : Stands) → IsAnswerHere x known (HostAsked place) o → host_here x ≡ Some place
+    go IsGone h = absurd h
+    go (IsCell c) h = absurd h
+    go (IsComputed c) h = h
+
+-- the run is over then
+pub ended_move : (o : Outcome) (known : List Known) (reads : List Seen) → Ends (evaluation_of reads o) ≡ answered (step_by None o) known reads
+ended_move (Good v) known reads = refl
+ended_move (Bad e) known reads = refl
+
+pub ended_judged : (o : Outcome) (count : ℕ) (known : List Known) → IsJudged count known (step_by None o)
+ended_judged (Good v) count known = tt
+ended_judged (Bad e) count known = tt
 
 -- what holds whatever an answer is holds where it is no error
 pub anyway : {A E P : Type 0} (r : Result A E) → P → OnOk r P

@@ -20,7 +20,7 @@ pub(crate) struct Learnt {
 }
 
 impl Model for Learnt {
-    ghost use Rattle.std.specs.Prelude.{length};
+    ghost use Rattle.std.specs.Prelude.{◌≡◌, length};
     ghost use Rattle.sig_computed.specs.Lessons.{Lesson, good_seen};
 
     ghost Value = { Lesson };

@@ -1,12 +1,12 @@
 // One step of a frame: a look at a kept source, an answer of the recipe, or a slot that was waited for.
-ghost use Rattle.std.specs.Prelude.{◌≡◌, ◌<◌, ℕ, ◌++◌, ◌∷◌, [], true, false, List, Some, None, IfOk, IfSome, OnOk, map, drop, length, slice_index};
+ghost use Rattle.std.specs.Prelude.{◌≡◌, ◌<◌, ℕ, [], true, false, List, Some, None, IfOk, IfSome, OnOk, drop, length, slice_index};
 ghost use Rattle.signal_model.specs.Recipes.{Hosts, IsJudged};
 ghost use Rattle.signal_model.specs.Signals.{is_computed, is_in, standing};
 ghost use Rattle.signal_model.specs.Memos.{holds_cycle, sources_of};
 ghost use Rattle.signal_model.specs.Marks.{mark_of};
 ghost use Rattle.sig_computed.specs.Skips.{compare_steps, is_clean, look_steps, passed_over, source_steps};
 ghost use Rattle.signal_model.specs.Sound.{standing_outcome};
-ghost use Rattle.sig_nodes.specs.Answers.{answer_here, host_here, slots_here, IsAnswerHere, IsJudgedAnswer};
+ghost use Rattle.sig_nodes.specs.Answers.{answer_here, host_here, slots_here};
 ghost use Rattle.sig_nodes.specs.States.{is_given, progress_at, GoesOn};
 ghost use Rattle.sig_computed.specs.Steps.{answered, decided, is_ready, looked, ready_outcome, slot_read};
 ghost use Rattle.sig_computed.specs.Views.{evaluating, first_moved, first_name, frame_of, move_of, or_cycle, phase_of, progressed, Stays};
@@ -172,7 +172,7 @@ fn wait(
     Ok(turn)
 }
 
-// A recipe has answered.
+// A host formula has answered.
 fn answered(frame: &mut Open, answer: Step) -> Turn
     ensures turn { move_of result frame.new ≡ answered answer frame.old.learnt.known frame.old.learnt.reads }
     ensures id { frame.new.id ≡ frame.old.id }
@@ -193,37 +193,30 @@ fn answered(frame: &mut Open, answer: Step) -> Turn
     }
 }
 
-// What a computed's recipe answers: a formula's answer, or that of the host formula, which is asked now. The answer is told by the
-// meanings by which the shelf answers, and its form under any; what the shelf answers, its counts and its asks have a clause each, as the
-// asks are told only where memory was left.
-fn answer_of(
+// What a computed's host formula answers, which is asked now. The answer is told by the meanings by which the shelf answers, and its form
+// under any; what the shelf answers, its counts and its asks have a clause each, as the asks are told only where memory was left.
+fn host_answer(
     alloc: Global,
     graph: &Graph,
     shelf: &mut Shelf,
     node: NodeId,
-    asked: Asked,
+    place: usize,
     known: &[Known],
 ) -> Result<Step, NoMemory>
     requires counted { ⟦<Shelf as Lent>⟧.counted shelf.old }
     requires host { CanAsk (host_here (standing graph.now.state.signals node)) (⟦<Shelf as Lent>⟧.asked shelf.old) }
-    requires answer { IsAnswerHere (standing graph.now.state.signals node) known.now asked }
-    requires judged { IsJudgedAnswer (length (slots_here (standing graph.now.state.signals node))) known.now asked }
+    requires place { host_here (standing graph.now.state.signals node) ≡ Some place }
     ensures answer { (hosts : Hosts) → ⟦<Shelf as Lent>⟧.answers hosts shelf.old → IfOk result (λ s. s ≡ answer_here hosts (standing graph.now.state.signals node) known.now) }
     ensures judged { IfOk result (λ s. IsJudged (length (slots_here (standing graph.now.state.signals node))) known.now s) }
     ensures answers { (hosts : Hosts) → ⟦<Shelf as Lent>⟧.answers hosts shelf.old → ⟦<Shelf as Lent>⟧.answers hosts shelf.new }
     ensures counted { ⟦<Shelf as Lent>⟧.counted shelf.new }
     ensures asked { OnOk result (⟦<Shelf as Lent>⟧.asked shelf.new ≡ asked_once (host_here (standing graph.now.state.signals node)) (⟦<Shelf as Lent>⟧.asked shelf.old)) }
 {
-    match asked {
-        Asked::Step(step) => Ok(step),
-        Asked::Host(place) => {
-            let step = shelf.ask(alloc, place, known)?;
-            Ok(judged(graph.slots(node).len(), known, step))
-        }
-    }
+    let step = shelf.ask(alloc, place, known)?;
+    Ok(judged(graph.slots(node).len(), known, step))
 }
 
-// A recipe is asked with what is known. The turn is told by the meanings of the host formulas, in its form under any, and by the ids that
+// A recipe is asked with what is known: a formula's outcome goes where that of the frame stands. The turn is told by the meanings of the host formulas, in its form under any, and by the ids that
 // it read; the frame and the graph have clauses of their own, and so have what the shelf answers, its counts and its asks.
 fn run(
     alloc: Global,
@@ -244,9 +237,18 @@ fn run(
     ensures counted { OnOk result (⟦<Shelf as Lent>⟧.counted shelf.new) }
     ensures asked { OnOk result (⟦<Shelf as Lent>⟧.asked shelf.new ≡ asked_once (host_here (standing graph.old.state.signals frame.old.id)) (⟦<Shelf as Lent>⟧.asked shelf.old)) }
 {
-    let asked = graph.recipe(frame.id, frame.learnt.known())?;
-    let answer = answer_of(alloc, graph, shelf, frame.id, asked, frame.learnt.known())?;
-    Ok(answered(frame, answer))
+    let asked = graph.recipe(frame.id, frame.learnt.known(), &mut frame.outcome)?;
+    match asked {
+        Asked::Slot(slot) => {
+            frame.doing = Doing::Waiting(slot);
+            Ok(Turn::GoesOn)
+        }
+        Asked::Ended => Ok(Turn::Ends),
+        Asked::Host(place) => {
+            let answer = host_answer(alloc, graph, shelf, frame.id, place, frame.learnt.known())?;
+            Ok(answered(frame, answer))
+        }
+    }
 }
 
 /// One step of a frame, which is left in its new phase. Its clauses are those of a recipe that is asked, for any phase: the turn by the

@@ -5,12 +5,13 @@ use Rattle.sig_base.specs.declared.value.Value.{Value}
 use Rattle.sig_base.specs.declared.value.Known.{Known}
 use Rattle.sig_base.specs.declared.value.Step.{Step}
 use Rattle.sig_base.specs.declared.value.Step.TheVariants.{Fail}
+use Rattle.sig_formula.specs.Evaluation.{step_by}
 use Rattle.sig_base.specs.declared.value.Fault.TheVariants as fault
 use Rattle.sig_base.specs.declared.value.Outcome.{Outcome}
 use Rattle.sig_base.specs.declared.value.Outcome.TheVariants.{Good, Bad}
 use Rattle.sig_formula.specs.Trees.{tree}
 use Rattle.signal_model.specs.Recipes as recipes
-use Rattle.signal_model.specs.Recipes.{Hosts, recipe_answer, IsJudged}
+use Rattle.signal_model.specs.Recipes.{Hosts, recipe_answer, IsUnknownSlot}
 use Rattle.signal_model.specs.Signals as signals
 use Rattle.signal_model.specs.Signals.{Signals, Stands, IsGone, IsCell, IsComputed, standing}
 use Rattle.signal_model.specs.Memos.{Source, differs}
@@ -19,7 +20,7 @@ use Rattle.signal_model.specs.Marks as marks
 use Rattle.sig_nodes.specs.declared.answers.Recipe.{Recipe}
 use Rattle.sig_nodes.specs.declared.answers.Recipe.TheVariants.{Formula, Host}
 use Rattle.sig_nodes.specs.declared.answers.Asked.{Asked}
-use Rattle.sig_nodes.specs.declared.answers.Asked.TheVariants.{Step as StepAsked, Host as HostAsked}
+use Rattle.sig_nodes.specs.declared.answers.Asked.TheVariants.{Slot as SlotAsked, Ended, Host as HostAsked}
 use Rattle.sig_nodes.specs.declared.answers.Mark.{Mark}
 use Rattle.sig_nodes.specs.declared.answers.Mark.TheVariants.{Clean, Checked, Dirty}
 use Rattle.sig_nodes.specs.declared.answers.Standing.{Standing}
@@ -80,19 +81,27 @@ abbrev pub answer_here : Hosts → Stands → List Known → Step
 answer_here hosts (IsComputed c) known = recipe_answer hosts c.recipe known
 answer_here hosts _ known = Fail fault.Gone
 
+-- a formula's answer is a step, by the outcome that stands where it came to one
+abbrev pub IsStepAnswer : Asked → Outcome → Step → Type 0
+IsStepAnswer (SlotAsked slot) o s = step_by (Some slot) o ≡ s
+IsStepAnswer Ended o s = step_by None o ≡ s
+IsStepAnswer (HostAsked place) o s = ⊥
+
 -- a formula's answer, whatever host formulas mean, and of a host formula its place
-abbrev pub IsAnswerOf : recipes.Recipe → List Known → Asked → Type 0
-IsAnswerOf r known (StepAsked s) = (host_place r.expression ≡ None) × ((hosts : Hosts) → s ≡ recipe_answer hosts r known)
-IsAnswerOf r known (HostAsked place) = host_place r.expression ≡ Some place
+abbrev pub IsAnswerOf : recipes.Recipe → List Known → Asked → Outcome → Type 0
+IsAnswerOf r known (SlotAsked slot) o = (host_place r.expression ≡ None) × ((hosts : Hosts) → step_by (Some slot) o ≡ recipe_answer hosts r known)
+IsAnswerOf r known Ended o = (host_place r.expression ≡ None) × ((hosts : Hosts) → step_by None o ≡ recipe_answer hosts r known)
+IsAnswerOf r known (HostAsked place) o = host_place r.expression ≡ Some place
 
 -- the same of what stands under an id
-abbrev pub IsAnswerHere : Stands → List Known → Asked → Type 0
-IsAnswerHere (IsComputed c) known a = IsAnswerOf c.recipe known a
-IsAnswerHere _ known a = ⊥
+abbrev pub IsAnswerHere : Stands → List Known → Asked → Outcome → Type 0
+IsAnswerHere (IsComputed c) known a o = IsAnswerOf c.recipe known a o
+IsAnswerHere _ known a o = ⊥
 
--- a formula's answer is judged
+-- a slot that a formula needs is there, and isn't known
 abbrev pub IsJudgedAnswer : ℕ → List Known → Asked → Type 0
-IsJudgedAnswer count known (StepAsked s) = IsJudged count known s
+IsJudgedAnswer count known (SlotAsked slot) = IsUnknownSlot count slot known
+IsJudgedAnswer count known Ended = Unit {0}
 IsJudgedAnswer count known (HostAsked place) = Unit {0}
 
 -- what a computed is read as: what it keeps, and `cycle` while it is being evaluated or where it has never run

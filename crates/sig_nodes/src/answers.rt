@@ -1,6 +1,5 @@
 // What is handed in of a computed, and what a graph answers about one.
 
-use sig_base::Step;
 use sig_formula::Formula;
 
 /// What a computed asks.
@@ -19,11 +18,13 @@ impl Drop for Recipe {
     }
 }
 
-/// The answer of a recipe to the values known so far.
-#[derive(Drop)]
+/// The answer of a recipe to the values known so far. An outcome stands where the caller has a place for it, so that no value is moved.
+#[derive(Clone, Copy)]
 pub enum Asked {
-    /// That of a formula.
-    Step(Step),
+    /// A formula needs the value of a slot.
+    Slot(u32),
+    /// A formula came to an outcome.
+    Ended,
     /// The place of the host formula that is to be asked.
     Host(usize),
 }

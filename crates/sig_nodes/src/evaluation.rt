@@ -68,18 +68,23 @@ impl Graph {
     }
 
     /// The answer of a computed's recipe to the values known so far, which begin with those of the last such call of this
-    /// evaluation: a formula's answer, or the place of the host formula that is to be asked. It is a counted step. Without memory
-    /// the graph may only be dropped.
-    pub fn recipe(&mut self, id: NodeId, known: &[Known]) -> Result<Asked, NoMemory>
+    /// evaluation: a formula's answer, whose outcome goes where one stands, or the place of the host formula that is to be asked. It is a
+    /// counted step. Without memory the graph may only be dropped.
+    pub fn recipe(
+        &mut self,
+        id: NodeId,
+        known: &[Known],
+        outcome: &mut Outcome,
+    ) -> Result<Asked, NoMemory>
         requires { GoesOn (progress_at id self.old.state.progress) known.now }
-        ensures answer { IfOk result (λ a. IsAnswerHere (standing self.old.state.signals id) known.now a) }
+        ensures answer { IfOk result (λ a. IsAnswerHere (standing self.old.state.signals id) known.now a outcome.new) }
         ensures judged { IfOk result (λ a. IsJudgedAnswer (length (slots_here (standing self.old.state.signals id))) known.now a) }
         ensures after { OnOk result (Becomes self.old self.new (with_look (with_progress self.old.state id (Some known.now)))) }
         ensures seats { OnOk result (self.new.seats ≡ self.old.seats) }
     {
         let _count = self.nodes.made();
         self.looked = counted(self.looked);
-        let answer = ask_at(self.alloc, &mut self.nodes, id, known)?;
+        let answer = ask_at(self.alloc, &mut self.nodes, id, known, outcome)?;
         Ok(answer)
     }
 

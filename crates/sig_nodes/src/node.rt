@@ -9,11 +9,12 @@ ghost use Rattle.signal_model.specs.Sound.{kept_outcome};
 ghost use Rattle.signal_model.specs.Settling.{has_outcome};
 ghost use Rattle.signal_model.specs.Changes.{memo_rewired};
 ghost use Rattle.sig_nodes.specs.States.{GoesOn};
-ghost use Rattle.sig_nodes.specs.Answers.{expression_of, host_place, IsAnswerOf, IsJudgedAnswer};
+ghost use Rattle.sig_nodes.specs.Answers.{expression_of, host_place, IsAnswerOf, IsJudgedAnswer, IsStepAnswer};
 ghost use Rattle.sig_nodes.specs.Computations.{at_generation, paired, recipe_made, renewed};
 ghost use Rattle.sig_nodes.specs.Pauses.{IsHeldOf};
 ghost use Rattle.sig_base.specs.declared.value.Known.{Known};
-ghost use Rattle.sig_formula.specs.Evaluation.{answer_of};
+ghost use Rattle.sig_formula.specs.Evaluation.{answer_of, step_by};
+ghost use Rattle.signal_model.specs.Recipes.{judged};
 ghost use Rattle.sig_formula.specs.Machines.{IsPaused};
 ghost use Rattle.sig_formula.specs.declared.formula.RowRef.{RowRef};
 ghost use Rattle.sig_formula.specs.Trees.{tree};
@@ -313,11 +314,16 @@ impl Computation {
 
     /// The recipe's answer to the values known so far, of which the earlier ones are noted already. It notes the others, and the evaluation
     /// of a formula goes on from where it stands.
-    pub(crate) fn ask(&mut self, alloc: Global, known: &[Known]) -> Result<Asked, NoMemory>
+    pub(crate) fn ask(
+        &mut self,
+        alloc: Global,
+        known: &[Known],
+        outcome: &mut Outcome,
+    ) -> Result<Asked, NoMemory>
         requires { GoesOn self.old.known known.now }
         ensures kept { self.new ≡ record self.old { known = self.new.known } }
         ensures noted { OnOk result (self.new.known ≡ Some known.now) }
-        ensures answer { IfOk result (λ a. IsAnswerOf self.old.recipe known.now a) }
+        ensures answer { IfOk result (λ a. IsAnswerOf self.old.recipe known.now a outcome.new) }
         ensures judged { IfOk result (λ a. IsJudgedAnswer (length self.old.recipe.slots) known.now a) }
     {
         let held = self.paused.take();
@@ -325,9 +331,9 @@ impl Computation {
         match &self.recipe {
             Recipe::Formula(formula) => {
                 let mut paused = begun(alloc, formula, held)?;
-                let step = advanced(alloc, formula, &mut paused, known)?;
+                let slot = advanced(alloc, formula, &mut paused, known, outcome)?;
                 self.paused = Some(paused);
-                Ok(Asked::Step(judged(self.slots.len(), known, step)))
+                Ok(judged_answer(self.slots.len(), known, slot, outcome))
             }
             Recipe::Host(place) => Ok(Asked::Host(*place)),
         }
@@ -435,19 +441,48 @@ fn begun(
     }
 }
 
-// Goes on with an evaluation in a box: what the formula answers.
+// Goes on with an evaluation in a box: the slot that the formula needs, or else what it comes to stands in a place.
 fn advanced(
     alloc: Global,
     formula: &Formula,
     paused: &mut Box<Paused>,
     known: &[Known],
-) -> Result<Step, NoMemory>
+    outcome: &mut Outcome,
+) -> Result<Option<u32>, NoMemory>
     requires { IsPaused paused.old.value (tree formula.now) None known.now }
-    ensures answer { IfOk result (λ s. s ≡ answer_of (tree formula.now) None known.now) }
+    ensures answer { IfOk result (λ slot. step_by slot outcome.new ≡ answer_of (tree formula.now) None known.now) }
     ensures paused { OnOk result (IsPaused paused.new.value (tree formula.now) None known.now) }
 {
-    let step = paused.advance(alloc, formula, None, known)?;
-    Ok(step)
+    let slot = paused.advance(alloc, formula, None, known, outcome)?;
+    Ok(slot)
+}
+
+// A step that was judged, as an answer: an outcome goes to its place.
+fn step_answer(step: Step, outcome: &mut Outcome) -> Asked
+    ensures { IsStepAnswer result outcome.new step }
+{
+    match step {
+        Step::Read(slot) => Asked::Slot(slot),
+        Step::Done(value) => {
+            *outcome = Outcome::Good(value);
+            Asked::Ended
+        }
+        Step::Fail(fault) => {
+            *outcome = Outcome::Bad(fault);
+            Asked::Ended
+        }
+    }
+}
+
+// What a formula answers, judged: a slot that it may not ask for comes to a fault.
+fn judged_answer(count: usize, known: &[Known], slot: Option<u32>, outcome: &mut Outcome) -> Asked
+    ensures answer { IsStepAnswer result outcome.new (judged count known.now (step_by slot outcome.old)) }
+    ensures judged { IsJudgedAnswer count known.now result }
+{
+    match slot {
+        Some(slot) => step_answer(judged(count, known, Step::Read(slot)), outcome),
+        None => Asked::Ended,
+    }
 }
 
 fn host_place(recipe: &Recipe) -> Option<usize>

@@ -164,16 +164,21 @@ pub(crate) fn end_at(nodes: &mut Nodes, id: NodeId)
 }
 
 // Asks the recipe of a computed's node.
-fn ask(alloc: Global, node: &mut Node, known: &[Known]) -> Result<Asked, NoMemory>
+fn ask(
+    alloc: Global,
+    node: &mut Node,
+    known: &[Known],
+    outcome: &mut Outcome,
+) -> Result<Asked, NoMemory>
     requires { GoesOn (known_body node.old.body) known.now }
     ensures kept { node.new ≡ known_node (known_body node.new.body) node.old }
     ensures noted { OnOk result (known_body node.new.body ≡ Some known.now) }
-    ensures answer { IfOk result (λ a. (name : ℕ) → IsAnswerHere (stands_of name node.old.body) known.now a) }
+    ensures answer { IfOk result (λ a. (name : ℕ) → IsAnswerHere (stands_of name node.old.body) known.now a outcome.new) }
     ensures judged { IfOk result (λ a. IsJudgedAnswer (length (slots_body node.old.body)) known.now a) }
 {
     match &mut node.body {
         Body::Computed(computation) => {
-            let answer = computation.ask(alloc, known)?;
+            let answer = computation.ask(alloc, known, outcome)?;
             Ok(answer)
         }
         _ => unreachable!(),
@@ -186,13 +191,14 @@ pub(crate) fn ask_at(
     nodes: &mut Nodes,
     id: NodeId,
     known: &[Known],
+    outcome: &mut Outcome,
 ) -> Result<Asked, NoMemory>
     requires { GoesOn (known_body (body_at nodes.old.items id)) known.now }
     ensures kept { nodes.new.items ≡ changed_at (known_node (known_body (body_at nodes.new.items id))) id nodes.old.items }
     ensures noted { OnOk result (known_body (body_at nodes.new.items id) ≡ Some known.now) }
-    ensures answer { IfOk result (λ a. IsAnswerHere (stands_of id (body_at nodes.old.items id)) known.now a) }
+    ensures answer { IfOk result (λ a. IsAnswerHere (stands_of id (body_at nodes.old.items id)) known.now a outcome.new) }
     ensures judged { IfOk result (λ a. IsJudgedAnswer (length (slots_body (body_at nodes.old.items id))) known.now a) }
 {
-    let answer = ask(alloc, nodes.node_mut(id), known)?;
+    let answer = ask(alloc, nodes.node_mut(id), known, outcome)?;
     Ok(answer)
 }

@@ -34,7 +34,7 @@ returns-clause-noted c =
 
 pub returns-clause-answer : goal.returns-clause-answer
 returns-clause-answer c =
-    subst (λ (b : Body). IsAnswerHere (stands_of c.args.id b) c.args.known.now c.in_ok-answer.answer)
+    subst (λ (b : Body). IsAnswerHere (stands_of c.args.id b) c.args.known.now c.in_ok-answer.answer c.ask.new.outcome)
     (sym (body_got c.args.nodes.now.items c.args.id c.node_mut.result.now c.node_mut.ensures.value))
     (c.in_ok-answer.ensures.answer c.args.id)
 

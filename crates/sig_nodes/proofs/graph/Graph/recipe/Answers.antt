@@ -35,7 +35,7 @@ pub returns-clause-answer : goal.returns-clause-answer
 returns-clause-answer c =
     let xs = c.self.inside.nodes.items in
     let here = sym (stands xs c.args.id) ∙ ap (λ (s : Seen). standing s.state.signals c.args.id) c.self.view_is in
-    subst (λ z. IsAnswerHere z c.args.known.now c.in_ok-answer.answer) here c.in_ok-answer.ensures.answer
+    subst (λ z. IsAnswerHere z c.args.known.now c.in_ok-answer.answer c.ask_at.new.outcome) here c.in_ok-answer.ensures.answer
 
 pub returns-clause-judged : goal.returns-clause-judged
 returns-clause-judged c =
