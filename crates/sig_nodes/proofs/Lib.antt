@@ -10,7 +10,6 @@ mod Walks
 pub mod HostUse
 pub mod Shared
 mod Pauses
-mod Found
 mod Gaps
 mod Seated
 mod KeptFinds

@@ -23,4 +23,3 @@ mod trail;
 pub use answers::{Asked, Mark, Recipe, Standing};
 pub use errors::NodeFault;
 pub use graph::Graph;
-pub use queries::Look;

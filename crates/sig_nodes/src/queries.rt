@@ -1,58 +1,18 @@
-// Looks at signals, and the marks of computeds.
+// The marks of computeds.
 ghost use Rattle.std.specs.Prelude.{◌≡◌, true, false};
 ghost use Rattle.signal_model.specs.Signals.{is_computed, standing};
 ghost use Rattle.signal_model.specs.Marks.{mark_of};
 ghost use Rattle.sig_nodes.specs.Answers.{mark_meant};
-ghost use Rattle.sig_nodes.specs.Looks.{is_clean_mark, look_here, look_meant};
-ghost use Rattle.sig_nodes.specs.States.{is_computing, with_look, Becomes};
+ghost use Rattle.sig_nodes.specs.Looks.{is_clean_mark};
+ghost use Rattle.sig_nodes.specs.States.{with_look, Becomes};
 
-use crate::answers::{Mark, Standing};
+use crate::answers::Mark;
 use crate::evaluation::counted;
 use crate::graph::Graph;
 use crate::marks::{is_due, is_known_due};
 use crate::search::finds_due;
 use crate::search_marks::unmark_reached;
 use sig_base::NodeId;
-
-/// What a look at an id finds.
-#[derive(Clone, Copy, Debug, PartialEq, Eq)]
-pub enum Look {
-    /// Nothing: the signal was disposed.
-    Gone,
-    Cell,
-    /// A computed that needs nothing, and isn't being evaluated.
-    Clean,
-    /// One of which something that it keeps as a source has to run, perhaps far below.
-    Checked,
-    /// One that has to run.
-    Dirty,
-    /// A computed that is being evaluated.
-    Computing,
-}
-
-// A mark, as a look finds it.
-fn look_of(mark: Mark) -> Look
-    ensures { result ≡ look_meant (mark_meant mark) }
-{
-    match mark {
-        Mark::Clean => Look::Clean,
-        Mark::Checked => Look::Checked,
-        Mark::Dirty => Look::Dirty,
-    }
-}
-
-// What a look finds. A search takes what marks it may.
-fn found(graph: &mut Graph, id: NodeId) -> Look
-    ensures look { result ≡ look_here (standing graph.old.state.signals id) (is_computing graph.old.state id) (mark_of graph.old.state.signals graph.old.state.memos id) }
-    ensures same { graph.new ≡ graph.old }
-{
-    match graph.standing(id) {
-        Standing::Gone => Look::Gone,
-        Standing::Cell => Look::Cell,
-        Standing::Computing => Look::Computing,
-        Standing::Computed => look_of(graph.mark_of(id)),
-    }
-}
 
 impl Graph {
     // Whether a search finds that a computed is clean. One that found nothing that must run takes the marks of all that it went through,
@@ -136,17 +96,5 @@ impl Graph {
         let clean = self.has_clean_mark(id);
         self.looked = counted(self.looked);
         clean
-    }
-
-    /// Looks at an id: what stands there, and of a computed that isn't being evaluated its mark. It is a counted step, and takes no
-    /// memory.
-    pub fn look(&mut self, id: NodeId) -> Look
-        ensures look { result ≡ look_here (standing self.old.state.signals id) (is_computing self.old.state id) (mark_of self.old.state.signals self.old.state.memos id) }
-        ensures after { Becomes self.old self.new (with_look self.old.state) }
-        ensures seats { self.new.seats ≡ self.old.seats }
-    {
-        let found = found(self, id);
-        self.looked = counted(self.looked);
-        found
     }
 }
