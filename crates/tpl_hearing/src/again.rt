@@ -49,8 +49,7 @@ fn front(alloc: Global, before: &Outcomes, count: usize) -> Result<Rehearing, No
     ensures front { IfOk result (λ h. h.heard ≡ take count before.now) }
     ensures compared { IfOk result (λ h. AreCompared before.now h) }
 {
-    let _once = before.count();
-    let mut hearing = Rehearing::new(alloc);
+    let mut hearing = Rehearing::with_room(alloc, before.count())?;
     for place in 0..count {
         let (id, outcome) = before.at(place);
         let outcome = outcome.copy()?;

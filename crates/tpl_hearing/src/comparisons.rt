@@ -44,6 +44,14 @@ impl Comparisons {
         }
     }
 
+    // Of no name, with room for so many.
+    fn with_room(alloc: Global, count: usize) -> Result<Comparisons, NoMemory>
+        ensures { IfOk result (λ c. c ≡ []) }
+    {
+        let same = IndexMap::with_capacity(alloc, count)?;
+        Ok(Comparisons { same })
+    }
+
     /// Whether a name has the outcome of before, where that is known.
     pub(crate) fn known(&self, id: NodeId) -> Option<bool>
         ensures { result ≡ lookup (nat_eq id) self.now }
@@ -79,6 +87,20 @@ impl Rehearing {
             heard: Outcomes::new(alloc),
             compared: Comparisons::new(alloc),
         }
+    }
+
+    /// Nothing was heard yet, and there is room for so many names.
+    ///
+    /// # Errors
+    ///
+    /// `NoMemory` alone.
+    pub(crate) fn with_room(alloc: Global, count: usize) -> Result<Rehearing, NoMemory>
+        ensures heard { IfOk result (λ h. h.heard ≡ []) }
+        ensures compared { IfOk result (λ h. h.compared ≡ []) }
+    {
+        let heard = Outcomes::with_room(alloc, count)?;
+        let compared = Comparisons::with_room(alloc, count)?;
+        Ok(Rehearing { heard, compared })
     }
 
     /// Puts a name behind the others, of which it is known whether it has the outcome of before.

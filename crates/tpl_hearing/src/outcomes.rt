@@ -79,6 +79,18 @@ impl Outcomes {
         }
     }
 
+    /// Nothing was heard, and there is room for so many names.
+    ///
+    /// # Errors
+    ///
+    /// `NoMemory` alone.
+    pub(crate) fn with_room(alloc: Global, count: usize) -> Result<Outcomes, NoMemory>
+        ensures { IfOk result (λ h. h ≡ []) }
+    {
+        let outcomes = IndexMap::with_capacity(alloc, count)?;
+        Ok(Outcomes { outcomes })
+    }
+
     // The outcome that was heard of a name.
     fn outcome(&self, id: NodeId) -> Result<Option<Outcome>, NoMemory>
         ensures { IfOk result (λ o. o ≡ heard_of self.now id) }

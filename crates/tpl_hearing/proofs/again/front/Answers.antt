@@ -6,7 +6,7 @@ use Rattle.tpl_hearing.proofs.again.front.Goals as goal
 pub put-requires : goal.put-requires
 put-requires c =
     subst (λ (h : Outcomes). heard_of h c.at-id.result.0 ≡ None) (sym c.loop-place.invariant.front)
-    (not_before c.args.before.now c.loop-place.place c.at-id.result.0 c.at-id.result.1.now c.count-once.ensures.once c.at-id.ensures.at)
+    (not_before c.args.before.now c.loop-place.place c.at-id.result.0 c.at-id.result.1.now c.count.ensures.once c.at-id.ensures.at)
 
 pub loop-place-preserved : goal.loop-place-preserved
 loop-place-preserved c =
@@ -21,4 +21,4 @@ loop-place-preserved c =
     }
 
 pub loop-place-init : goal.loop-place-init
-loop-place-init c = record { front = c.new-hearing.ensures.heard; compared = rw c.new-hearing.ensures.compared tt; low = omega arith }
+loop-place-init c = record { front = c.in_ok-hearing.ensures.heard; compared = rw c.in_ok-hearing.ensures.compared tt; low = omega arith }
