@@ -2,12 +2,11 @@
 ghost use Rattle.std.specs.Prelude.{◌≡◌, ◌<◌, ◌∷◌, ◌||◌, ◌&&◌, not, map, is_some, true, false, None, Some, IfOk, IfSome, IfNone, OnOk, slice_get};
 ghost use Rattle.std.specs.Option.{option_copied};
 ghost use Rattle.signal_model.specs.Signals.{is_computed};
-ghost use Rattle.signal_model.specs.Memos.{is_stale_by, memo_is_cycle, same_number, source_names, sources_in};
+ghost use Rattle.signal_model.specs.Memos.{memo_is_cycle, same_number, source_names, sources_in};
 ghost use Rattle.signal_model.specs.Sound.{kept_outcome};
 ghost use Rattle.sig_nodes.specs.declared.node.Body.TheVariants as body;
 ghost use Rattle.sig_nodes.specs.Answers.{host_here, kind_here, rule_here, shown_computed, slots_here, value_here};
 ghost use Rattle.sig_nodes.specs.Nodes.{are_live_bodies, asks_host_body, asks_host_here, body_at, change_at, has_moved_body, is_computed_body, is_live_body, known_body, memo_body, number_at, number_body, seat_at, shown_body, slots_body, stands_of};
-ghost use Rattle.sig_nodes.specs.Computations.{at_generation};
 ghost use Rattle.sig_nodes.specs.Search.{of_holder, some_holder};
 
 use crate::answers::Standing;
@@ -261,26 +260,6 @@ pub(crate) fn sources_at(nodes: &Nodes, id: NodeId) -> &[NodeId]
     }
 }
 
-// The kept source at a place of a computed's.
-fn source_at(nodes: &Nodes, id: NodeId, place: usize) -> Option<Source>
-    ensures { result ≡ slice_get (sources_in (memo_body (body_at nodes.now.items id))) place }
-{
-    match body_at(nodes, id) {
-        Some(Body::Computed(computation)) => computation.source(place),
-        _ => None,
-    }
-}
-
-/// Whether a computed has to run whatever its sources are.
-pub(crate) fn is_stale_at(nodes: &Nodes, generation: u128, id: NodeId) -> bool
-    ensures { result ≡ is_stale_by (at_generation generation) (memo_body (body_at nodes.now.items id)) }
-{
-    match body_at(nodes, id) {
-        Some(Body::Computed(computation)) => computation.is_stale(generation),
-        _ => true,
-    }
-}
-
 // The change number of a signal, none where it is gone.
 fn number_at(nodes: &Nodes, id: NodeId) -> Option<u128>
     ensures { result ≡ number_at nodes.now.items id }
@@ -374,15 +353,5 @@ pub(crate) fn compared_at(nodes: &Nodes, id: NodeId, place: usize) -> Option<boo
     match computation_at(nodes, id) {
         Some(computation) => compared(nodes, computation, place),
         None => Some(false),
-    }
-}
-
-/// Whether a computed's kept source at a place has another number than the one that was read, or is computing.
-pub(crate) fn moved_at(nodes: &Nodes, id: NodeId, place: usize) -> bool
-    ensures { result ≡ has_moved_body nodes.now.items (slice_get (sources_in (memo_body (body_at nodes.now.items id))) place) }
-{
-    match source_at(nodes, id, place) {
-        Some(source) => source_moved(nodes, source.name, source.number),
-        None => false,
     }
 }

@@ -7,7 +7,7 @@ ghost use Rattle.sig_nodes.specs.Answers.{has_moved, slots_here, IsAnswerHere, I
 ghost use Rattle.sig_nodes.specs.States.{counted, is_computing, is_given, progress_at, with_kept_run, with_look, with_progress, Becomes, CanWear, GoesOn};
 
 use crate::answers::Asked;
-use crate::bodies::{compared_at, is_stale_at, moved_at, numbers_now};
+use crate::bodies::{compared_at, numbers_now};
 use crate::end_marks::{end_mark, run_unmarks, stop_unmarks};
 use crate::graph::Graph;
 use crate::links::{copied, has_read, relink};
@@ -28,7 +28,7 @@ pub(crate) fn counted(looked: u128) -> u128
 }
 
 impl Graph {
-    // Begins the evaluation of a computed, and tells whether it is stale, as `stale` does.
+    // Begins the evaluation of a computed, and tells whether it is stale.
     fn begun_stale(&mut self, id: NodeId) -> bool
         requires live { is_computed (standing self.old.state.signals id) ≡ true }
         requires idle { is_computing self.old.state id ≡ false }
@@ -53,7 +53,8 @@ impl Graph {
         let _stale = self.begun_stale(id);
     }
 
-    /// Begins the evaluation of a computed, and tells whether it is stale, as `begin` and `stale` do in turn. It is a counted step.
+    /// Begins the evaluation of a computed, as `begin` does, and tells whether it has to run whatever its sources are: it has never run,
+    /// holds `cycle` of an earlier generation, or holds another outcome and was rewired since. It is a counted step.
     pub fn begin_stale(&mut self, id: NodeId) -> bool
         requires live { is_computed (standing self.old.state.signals id) ≡ true }
         requires idle { is_computing self.old.state id ≡ false }
@@ -88,29 +89,8 @@ impl Graph {
         Ok(answer)
     }
 
-    /// Whether a computed has to run whatever its sources are: it has never run, holds `cycle` of an earlier generation, or holds
-    /// another outcome and was rewired since. It is a counted step.
-    pub fn stale(&mut self, id: NodeId) -> bool
-        ensures stale { result ≡ is_stale self.old.state.memos id }
-        ensures after { Becomes self.old self.new (with_look self.old.state) }
-        ensures seats { self.new.seats ≡ self.old.seats }
-    {
-        self.looked = counted(self.looked);
-        is_stale_at(&self.nodes, self.generation, id)
-    }
-
-    /// Whether the kept source at a place has another number than the one that was read, or is computing. It is a counted step.
-    pub fn moved(&mut self, id: NodeId, place: usize) -> bool
-        requires { place < length (sources_of self.old.state.memos id) }
-        ensures moved { result ≡ has_moved self.old.state (slice_get (sources_of self.old.state.memos id) place) }
-        ensures after { Becomes self.old self.new (with_look self.old.state) }
-        ensures seats { self.new.seats ≡ self.old.seats }
-    {
-        self.looked = counted(self.looked);
-        moved_at(&self.nodes, id, place)
-    }
-
-    /// Whether a computed doesn't hold `cycle`, and its kept source at a place has moved, as `moved` tells, which is a counted step.
+    /// Whether a computed doesn't hold `cycle`, and its kept source at a place has another number than the one that was read, or is
+    /// computing. Where it doesn't hold `cycle` it is a counted step.
     pub fn compare(&mut self, id: NodeId, place: usize) -> bool
         requires { place < length (sources_of self.old.state.memos id) }
         ensures moved { result ≡ (not (holds_cycle self.old.state.memos id) && has_moved self.old.state (slice_get (sources_of self.old.state.memos id) place)) }
