@@ -4,7 +4,7 @@ use Rattle.sig_base.specs.declared.value.Value.{Value}
 use Rattle.sig_base.specs.declared.value.Outcome.{Outcome}
 use Rattle.sig_base.specs.declared.value.Known.{Known}
 use Rattle.signal_model.specs.Recipes.{Recipe}
-use Rattle.signal_model.specs.Signals.{Signals, Cell, Computed, Stands, IsCell, is_there, standing, changed, without}
+use Rattle.signal_model.specs.Signals.{Signals, Cell, Computed, is_there, standing, changed, without}
 use Rattle.signal_model.specs.Memos.{Memos, named_now}
 use Rattle.signal_model.specs.Kept.{AreGiven}
 use Rattle.signal_model.specs.Settling.{with_memo}

@@ -1,4 +1,4 @@
-use Rattle.std.proofs.Common.{◌≡◌, ◌<◌, ◌∙◌, ℕ, List, length, sym, subst}
+use Rattle.std.proofs.Common.{◌<◌, ◌∙◌, ℕ, List, length, sym, subst}
 use Rattle.std.specs.List.{All}
 use Rattle.sig_marks.specs.Tables.{Relinks}
 use Rattle.sig_nodes.proofs.KeptMarks.{links_others, links_same}

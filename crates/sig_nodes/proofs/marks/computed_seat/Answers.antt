@@ -1,4 +1,4 @@
-use Rattle.std.proofs.Common.{◌≡◌, true, false, IfNone, IfSome, sym, ap, ◌∙◌, subst}
+use Rattle.std.proofs.Common.{◌≡◌, true, false, IfNone, IfSome, sym, ap, subst}
 use Rattle.sig_nodes.specs.declared.node.Body.{Body}
 use Rattle.sig_nodes.specs.Nodes.{is_computed_body, seat_at}
 use Rattle.sig_nodes.proofs.Edits.{body_got, seat_got}
