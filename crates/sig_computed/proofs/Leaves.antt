@@ -18,6 +18,8 @@ use Rattle.signal_model.specs.Sound.{kept_outcome, outcome_here}
 use Rattle.sig_nodes.specs.declared.answers.Standing.TheVariants.{Computed}
 use Rattle.sig_nodes.specs.Answers.{answer_here, host_here, host_place, kind_here, shown_computed, shown_here, slots_here, IsAnswerHere}
 use Rattle.sig_computed.specs.Steps.{Running, Looking, GoesOn, Ends, answered, is_ready, ready_outcome, decided}
+use Rattle.sig_host.specs.Hosts.{HostPlace}
+use Rattle.sig_computed.specs.Asked.{asked_once}
 use Rattle.sig_computed.specs.Views.{evaluation_of, or_cycle}
 
 -- what is answered as a computed is one
@@ -102,6 +104,10 @@ asks_host st known a o place is h = go st (subst (λ b. IsAnswerHere st known b 
     go IsGone h = absurd h
     go (IsCell c) h = absurd h
     go (IsComputed c) h = h
+
+-- where no host formula is asked, all were asked as often as before
+pub unasked : (h : Option ℕ) (asked : List HostPlace) → h ≡ None → asked ≡ asked_once h asked
+unasked h asked e = sym (ap (λ x. asked_once x asked) e)
 
 -- the run is over then
 pub ended_move : (o : Outcome) (known : List Known) (reads : List Seen) → Ends (evaluation_of reads o) ≡ answered (step_by None o) known reads

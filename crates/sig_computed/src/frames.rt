@@ -1,5 +1,5 @@
 // The frames of computeds that are being evaluated, and what one step of a frame comes to.
-ghost use Rattle.std.specs.Prelude.{◌≡◌, ◌++◌, [], ◌∷◌, IfOk, OnOk};
+ghost use Rattle.std.specs.Prelude.{◌≡◌, ◌<◌, ◌++◌, [], ◌∷◌, IfOk, OnOk, vec_capacity, vec_len};
 ghost use Rattle.sig_base.specs.declared.value.Outcome.TheVariants.{Good};
 ghost use Rattle.signal_model.specs.Sound.{names_of};
 ghost use Rattle.signal_model.specs.Values.{learnt};
@@ -77,6 +77,17 @@ pub(crate) enum Turn {
     Falls,
 }
 
+// Puts a slot behind the others that are known, in room that is there.
+fn push_known(known: &mut Vec<Known>, one: Known)
+    requires { vec_len known.old < vec_capacity known.old }
+    ensures { known.new.items ≡ known.old.items ++ one ∷ [] }
+{
+    match known.push(one) {
+        Ok(_) => {}
+        Err(_) => unreachable!(),
+    }
+}
+
 impl Learnt {
     /// Nothing.
     pub(crate) fn new(alloc: Global) -> Learnt {
@@ -107,10 +118,8 @@ impl Learnt {
     {
         self.known.reserve(1)?;
         self.reads.push(id)?;
-        match self.known.push(Known { slot, value }) {
-            Ok(_) => Ok(()),
-            Err(_) => unreachable!(),
-        }
+        push_known(&mut self.known, Known { slot, value });
+        Ok(())
     }
 
     // It has learnt nothing. The lists keep their room, so that what is learnt next asks for no memory where that had enough.

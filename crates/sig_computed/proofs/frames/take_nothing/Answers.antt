@@ -10,4 +10,4 @@ pub returns-in-LookedAt : goal.returns-in-LookedAt
 returns-in-LookedAt c = rw c.in-LookedAt.is (search rules)
 
 pub returns-in_default : goal.returns-in_default
-returns-in_default c = learnt_nothing c.args.doing c.forget.new.learnt c.forget.ensures.known c.forget.ensures.reads
+returns-in_default c = learnt_nothing c.args.doing c.forget.new.self c.forget.ensures.known c.forget.ensures.reads

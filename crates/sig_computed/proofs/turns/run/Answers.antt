@@ -1,4 +1,4 @@
-use Rattle.std.proofs.Common.{List, length, refl, sym, ap, ◌∙◌, subst}
+use Rattle.std.proofs.Common.{List, length, refl, ap, ◌∙◌, subst}
 use Rattle.std.specs.Prelude.{None}
 use Rattle.sig_base.specs.declared.value.Known.{Known}
 use Rattle.sig_base.specs.declared.value.Step.{Step}
@@ -9,8 +9,7 @@ use Rattle.sig_nodes.specs.declared.answers.Asked.{Asked}
 use Rattle.sig_nodes.specs.States.{State}
 use Rattle.sig_nodes.specs.Answers.{host_here, slots_here, IsAnswerHere, IsJudgedAnswer}
 use Rattle.sig_computed.specs.Steps.{answered}
-use Rattle.sig_computed.specs.Asked.{asked_once}
-use Rattle.sig_computed.proofs.Leaves.{asks_host, end_answer, ended_judged, ended_move, slot_answer}
+use Rattle.sig_computed.proofs.Leaves.{asks_host, end_answer, ended_judged, ended_move, slot_answer, unasked}
 use Rattle.sig_computed.proofs.turns.run.Goals as goal
 
 -- a formula needs a slot
@@ -37,7 +36,7 @@ returns-in-Slot-clause-asked g c =
     let st = standing c.args.graph.now.state.signals c.args.frame.now.id in
     let l = c.args.frame.now.learnt in
     let is = subst (λ (ks : List Known). IsAnswerHere st ks c.in_ok-asked.asked c.recipe.new.outcome) c.known.ensures c.in_ok-asked.ensures.answer in
-    sym (ap (λ h. asked_once h _) (slot_answer st l.known c.in_ok-asked.asked c.recipe.new.outcome c.in-Slot.slot c.in-Slot.is is).0)
+    unasked (host_here st) _ (slot_answer st l.known c.in_ok-asked.asked c.recipe.new.outcome c.in-Slot.slot c.in-Slot.is is).0
 
 -- a formula has come to an outcome
 pub returns-in-Ended-clause-turn : goal.returns-in-Ended-clause-turn
@@ -65,7 +64,7 @@ returns-in-Ended-clause-asked g c =
     let l = c.args.frame.now.learnt in
     let o = c.recipe.new.outcome in
     let is = subst (λ (ks : List Known). IsAnswerHere st ks c.in_ok-asked.asked o) c.known.ensures c.in_ok-asked.ensures.answer in
-    sym (ap (λ h. asked_once h _) (end_answer st l.known c.in_ok-asked.asked o c.in-Ended.is is).0)
+    unasked (host_here st) _ (end_answer st l.known c.in_ok-asked.asked o c.in-Ended.is is).0
 
 -- a host formula is asked
 pub host_answer-requires-clause-place : goal.host_answer-requires-clause-place
