@@ -8,4 +8,7 @@ mod Loops
 mod Stills
 mod Alone
 mod Nearby
+mod Bygone
+mod Rising
+mod Visited
 pub mod Shared

@@ -1,6 +1,6 @@
 -- Visits, looks and turns, one after the other.
-use Rattle.std.proofs.Common.{◌≡◌, ℕ, suc, ◌+◌, ◌-◌, ◌<◌, ◌≤◌, Bool, true, false, ◌||◌, cond, List, [], ◌∷◌, ◌++◌, Option, Some, None, drop, get_or, length, take, refl, sym, ap, ◌∙◌, arith}
-use Rattle.std.proofs.lemmas.List.{drop_all, drop_more, take_all, take_more}
+use Rattle.std.proofs.Common.{◌≡◌, ℕ, suc, ◌+◌, ◌-◌, ◌<◌, ◌≤◌, Bool, true, false, cond, List, [], ◌∷◌, ◌++◌, Option, Some, None, drop, get_or, length, take, refl, sym, ap, ◌∙◌, arith}
+use Rattle.std.proofs.lemmas.List.{drop_all, drop_more, take_more}
 use Rattle.signal_model.specs.Recipes.{Hosts}
 use Rattle.effect_model.specs.Worlds as plain
 use Rattle.effect_model.specs.Owners.{the_owner}
@@ -8,7 +8,7 @@ use Rattle.effect_model.specs.Worlds.{effect_at, effect_numbers}
 use Rattle.effect_model.specs.Runs.{Flushed, after_last, flush, flush_within, is_effect_due, last_case, last_look, look, turn, value_now}
 use Rattle.effect_tables.specs.Placed.{tree_of}
 use Rattle.effect_tables.specs.Roots.{AreBare}
-use Rattle.effect_tables.proofs.Shared.{looks_rest, turns_rest, at_end, at_start, glance_more, glance_rests, glances_rest, goes_on, last_rests, look_found, look_passed, ran_more, rerun_rests, turn_ran, turn_world, turns_so_far_rest, visit_more, visit_rests, visits_rest}
+use Rattle.effect_tables.proofs.Shared.{looks_rest, turns_rest, at_end, at_start, glance_more, glance_rests, glances_rest, goes_on, last_rests, look_found, look_passed, rerun_rests, turn_ran, turn_world, turns_so_far_rest}
 use Rattle.sig_effect.specs.Stores.{environment}
 use Rattle.effect_tables.specs.Visits.{glance, glance_all, is_due, rerun, some_ran, visit, visit_all}
 use Rattle.effect_tables.specs.Turned.{added, after_turns}
@@ -25,7 +25,7 @@ abbrev pub seen : Scene → plain.World
 seen x = whole_of x.asked x.world
 
 -- what stands is bare
-bare_seen : (x : Scene) → Agrees x.asked x.world → AreBare (seen x).owned
+pub bare_seen : (x : Scene) → Agrees x.asked x.world → AreBare (seen x).owned
 bare_seen x a = formed_bare (the_owner 0) (tree_of x.world.tables) a.owned.formed.formed
 
 -- ---- visits
@@ -60,39 +60,6 @@ visit_found slacks old mid new first between last e due yes' is a p q =
 -- the numbers so far, and one more
 one_more : (ids : List ℕ) (i item : ℕ) → i < length ids → item ≡ get_or ids i item → take (i + 1) ids ≡ take i ids ++ item ∷ []
 one_more ids i item l is = take_more ids i item l ∙ ap (λ e. take i ids ++ e ∷ []) (sym is)
-
-pub visits_next : (slacks : List ℕ) (old mid new : Scene) (first between last : Hosts → Type 0) (ids : List ℕ) (i item : ℕ) → i < length ids → item ≡ get_or ids i item →
-    Agrees old.asked old.world → Runs slacks old mid first between (λ env. visit_all env (take i ids)) → Runs slacks mid new between last (λ env. visit env item) →
-    Runs slacks old new first last (λ env. visit_all env (take (i + 1) ids))
-visits_next slacks old mid new first between last ids i item l is a p q =
-    runs_as slacks old new first last (λ env w. visit env item (visit_all env (take i ids) w)) (λ env. visit_all env (take (i + 1) ids))
-    (λ hosts all sound.
-    let env : plain.Environment = environment hosts slacks in
-    sym (ap (λ es. visit_all env es (seen old)) (one_more ids i item l is) ∙ visit_more env (take i ids) item (seen old)))
-    (runs_then slacks old mid new first between last (λ env. visit_all env (take i ids)) (λ env. visit env item) a (λ env. visits_rest env (take i ids)) (λ env. visit_rests env item) p q)
-
--- whether one has run so far
-pub ran_next : (slacks : List ℕ) (old mid : Scene) (first between : Hosts → Type 0) (ids : List ℕ) (i item : ℕ) (due ran : Bool) → i < length ids → item ≡ get_or ids i item →
-    Runs slacks old mid first between (λ env. visit_all env (take i ids)) →
-    ((hosts : Hosts) → first hosts → IsSound hosts old.asked old.world → ran ≡ some_ran (environment hosts slacks) (take i ids) (seen old)) →
-    ((hosts : Hosts) → between hosts → IsSound hosts mid.asked mid.world → due ≡ is_due (environment hosts slacks) item (seen mid)) →
-    (next : Bool) → next ≡ (due || ran) →
-    (hosts : Hosts) → first hosts → IsSound hosts old.asked old.world → next ≡ some_ran (environment hosts slacks) (take (i + 1) ids) (seen old)
-ran_next slacks old mid first between ids i item due ran l is p so now next either hosts all sound =
-    let env : plain.Environment = environment hosts slacks in
-    let d = p.does hosts all sound in
-    let here : due ≡ is_due env item (visit_all env (take i ids) (seen old)) = now hosts (p.answers hosts all) d.sound ∙ ap (is_due env item) d.whole in
-    either ∙ (λ k. here k || so hosts all sound k)
-    ∙ sym (ap (λ es. some_ran env es (seen old)) (one_more ids i item l is) ∙ ran_more env (take i ids) item (seen old))
-
-pub visits_all : (slacks : List ℕ) (old new : Scene) (first last : Hosts → Type 0) (ids : List ℕ) (i : ℕ) → length ids ≤ i →
-    Runs slacks old new first last (λ env. visit_all env (take i ids)) → Runs slacks old new first last (λ env. visit_all env ids)
-visits_all slacks old new first last ids i l p =
-    runs_as slacks old new first last (λ env. visit_all env (take i ids)) (λ env. visit_all env ids)
-    (λ hosts all sound. ap (λ es. visit_all (environment hosts slacks) es (seen old)) (take_all i ids l)) p
-
-pub ran_all : (env : plain.Environment) (ids : List ℕ) (i : ℕ) (ran : Bool) (w : plain.World) → length ids ≤ i → ran ≡ some_ran env (take i ids) w → ran ≡ some_ran env ids w
-ran_all env ids i ran w l so = so ∙ ap (λ es. some_ran env es w) (take_all i ids l)
 
 -- a turn visits all effects
 pub turn_done : (slacks : List ℕ) (old new : Scene) (first last : Hosts → Type 0) (ids : List ℕ) → ids ≡ effect_numbers (seen old).effects →

@@ -9,10 +9,11 @@ ghost use Rattle.effect_world.specs.Signals.{scene};
 ghost use Rattle.effect_world.specs.Stores.{IsSound};
 ghost use Rattle.effect_world.specs.Wholes.{whole_of};
 ghost use Rattle.effect_turns.specs.Runs.{CanRun, Runs, Spends};
-ghost use Rattle.effect_tables.specs.Visits.{is_due, some_ran, visit, visit_all};
+ghost use Rattle.effect_tables.specs.Visits.{is_due, visit};
 
 use crate::glance::glance;
-use crate::quiet::{hear, is_known, is_quiet};
+use crate::near::id_below;
+use crate::quiet::{hear, is_quiet, next_loud};
 use crate::run::run_effect;
 use effect_tables::Effect;
 use effect_world::World;
@@ -54,9 +55,6 @@ fn visit(
         (scene world.old (⟦<Shelf as Lent>⟧.asked shelf.old) events.old.items) (scene world.new (⟦<Shelf as Lent>⟧.asked shelf.new) events.new.items)) }
     ensures counted { OnOk result (⟦<Shelf as Lent>⟧.counted shelf.new) }
 {
-    if is_known(world, place, id) {
-        return Ok(false);
-    }
     if is_quiet(world, place, id) {
         hear(world, *events.allocator(), place, id)?;
         return Ok(false);
@@ -76,38 +74,8 @@ fn either(one: bool, other: bool) -> bool
     one || other
 }
 
-// Visits the effects of these numbers, one after the other: whether one of them was due. Where none has ended, each stands at its place.
-fn visit_each(
-    world: &mut World,
-    shelf: &mut Shelf,
-    rules: &[EqualsRule],
-    ids: &[EffectId],
-    events: &mut Vec<Event>,
-) -> Result<bool, NoMemory>
-    requires can { CanRun (scene world.old (⟦<Shelf as Lent>⟧.asked shelf.old) events.old.items) }
-    requires ruled { AreRuled (length rules.now) world.old.graph.state.signals }
-    requires counted { ⟦<Shelf as Lent>⟧.counted shelf.old }
-    ensures ran { (hosts : Hosts) → ⟦<Shelf as Lent>⟧.answers hosts shelf.old → IsSound hosts (⟦<Shelf as Lent>⟧.asked shelf.old) world.old →
-        IfOk result (λ b. b ≡ some_ran (environment hosts (map (λ r. r.slack) rules.now)) ids.now (whole_of (⟦<Shelf as Lent>⟧.asked shelf.old) world.old)) }
-    ensures done { OnOk result (Runs (map (λ r. r.slack) rules.now)
-        (scene world.old (⟦<Shelf as Lent>⟧.asked shelf.old) events.old.items) (scene world.new (⟦<Shelf as Lent>⟧.asked shelf.new) events.new.items)
-        (λ hosts. ⟦<Shelf as Lent>⟧.answers hosts shelf.old) (λ hosts. ⟦<Shelf as Lent>⟧.answers hosts shelf.new) (λ env. visit_all env ids.now)) }
-    ensures spent { OnOk result (Spends
-        (scene world.old (⟦<Shelf as Lent>⟧.asked shelf.old) events.old.items) (scene world.new (⟦<Shelf as Lent>⟧.asked shelf.new) events.new.items)) }
-    ensures counted { OnOk result (⟦<Shelf as Lent>⟧.counted shelf.new) }
-{
-    let mut ran = false;
-    let mut place: usize = 0;
-    for id in ids {
-        let due = visit(world, shelf, rules, *id, place, events)?;
-        ran = either(due, ran);
-        place = place.wrapping_add(1);
-    }
-    Ok(ran)
-}
-
 /// One turn: the effects that live at its start, in the order of making. Each that still lives at its place is looked at, and it runs where
-/// it is due. It tells whether one has run.
+/// it is due. It tells whether one has run. Marked ones are passed over, and what is made meanwhile has a higher number.
 ///
 /// # Errors
 ///
@@ -130,7 +98,18 @@ pub fn turn(
         (scene world.old (⟦<Shelf as Lent>⟧.asked shelf.old) events.old.items) (scene world.new (⟦<Shelf as Lent>⟧.asked shelf.new) events.new.items)) }
     ensures counted { OnOk result (⟦<Shelf as Lent>⟧.counted shelf.new) }
 {
-    let ids = numbers(*events.allocator(), &world.tables.effects)?;
-    let ran = visit_each(world, shelf, rules, &ids, events)?;
+    let bound = world.tables.effects_made;
+    let mut ran = false;
+    let mut place = 0;
+    let mut low = 0;
+    'visiting: while low < bound {
+        place = next_loud(world, place, low);
+        let Some(id) = id_below(&world.tables.effects, place, bound) else {
+            return Ok(ran);
+        };
+        let due = visit(world, shelf, rules, id, place, events)?;
+        ran = either(due, ran);
+        low = id.number() + 1;
+    }
     Ok(ran)
 }

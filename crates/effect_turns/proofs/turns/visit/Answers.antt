@@ -1,24 +1,8 @@
 use Rattle.std.proofs.Common.{[], map}
-use Rattle.effect_turns.proofs.Carried.{can_then, runs_heard, spends_heard, spends_none, spends_then}
+use Rattle.effect_turns.proofs.Carried.{can_then, runs_heard, spends_heard, spends_then}
 use Rattle.effect_turns.proofs.Loops.{due_found, due_passed, visit_found, visit_passed}
 use Rattle.effect_turns.proofs.Stills.{quiet_due, quiet_visit}
 use Rattle.effect_turns.proofs.turns.visit.Goals as goal
-
-pub is_known-requires-clause-tables : goal.is_known-requires-clause-tables
-is_known-requires-clause-tables g c = c.requires.can.agrees.owned.tables
-
-pub is_known-requires-clause-heard : goal.is_known-requires-clause-heard
-is_known-requires-clause-heard g c = c.requires.can.agrees.heard
-
-pub returns-then-is_known-clause-due : goal.returns-then-is_known-clause-due
-returns-then-is_known-clause-due g c = λ hosts all sound.
-    quiet_due (map (λ r. r.slack) c.args.rules.now) hosts _ c.args.world.now c.args.id sound (c.is_known.ensures c.if-is_known.true)
-
-pub returns-then-is_known-clause-done : goal.returns-then-is_known-clause-done
-returns-then-is_known-clause-done g c = quiet_visit _ _ _ c.args.id c.requires.can.agrees (c.is_known.ensures c.if-is_known.true)
-
-pub returns-then-is_known-clause-spent : goal.returns-then-is_known-clause-spent
-returns-then-is_known-clause-spent g c = spends_none _
 
 pub hear-requires-clause-tables : goal.hear-requires-clause-tables
 hear-requires-clause-tables g c = c.requires.can.agrees.owned.tables
