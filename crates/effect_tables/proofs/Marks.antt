@@ -10,7 +10,7 @@ use Rattle.signal_laws.proofs.Shared.{all_snoc}
 use Rattle.effect_model.specs.Worlds as plain
 use Rattle.effect_tables.specs.declared.effect.Effect.{Effect}
 use Rattle.effect_tables.specs.Consistency.{AreRising}
-use Rattle.effect_tables.specs.Heard.{has_place, is_marked}
+use Rattle.effect_tables.specs.Heard.{has_place, is_marked, AreMarked}
 use Rattle.effect_tables.specs.Placed.{effect_of}
 use Rattle.effect_tables.proofs.Found.{IsNowhere, IsPlace}
 use Rattle.effect_tables.proofs.Kept.{none_behind}
@@ -33,6 +33,29 @@ pub beyond_off : (bs : List Bool) (i : ℕ) → length bs ≤ i → is_marked i 
 beyond_off [] i l = refl
 beyond_off (b ∷ bs) zero l = absurd (omega (arith, l))
 beyond_off (b ∷ bs) (suc i) l = beyond_off bs i (omega (arith, l))
+
+-- ---- marks that are set
+
+-- a place before another one, or not
+before_or : (p q : ℕ) → (p < q) ⊎ (q ≤ p)
+before_or p zero = inr (omega arith)
+before_or zero (suc q) = inl (omega arith)
+before_or (suc p) (suc q) = elim (before_or p q) [ inl l ↦ inl (omega (arith, l)) | inr m ↦ inr (omega (arith, m)) ]
+
+-- marked ones, and others behind them
+pub marks_joined : (p k j : ℕ) (bs : List Bool) → AreMarked p k bs → AreMarked (p + k) j bs → AreMarked p (k + j) bs
+marks_joined p k j bs one other q low high = elim (before_or q (p + k)) [
+  | inl l ↦ one q low l
+  | inr l ↦ other q l (omega (arith, high))
+]
+
+pub mark_alone : (p : ℕ) (bs : List Bool) → is_marked p bs ≡ true → AreMarked p 1 bs
+mark_alone p bs on q low high = ap (λ r. is_marked r bs) (let e : q ≡ p = omega (arith, low, high) in e) ∙ on
+
+-- so far, and so many more
+pub marks_on : (from p k : ℕ) (bs : List Bool) → ((q : ℕ) → from ≤ q → q < p → is_marked q bs ≡ true) → AreMarked p k bs →
+    (q : ℕ) → from ≤ q → q < p + k → is_marked q bs ≡ true
+marks_on from p k bs before more q low high = elim (before_or q p) [ inl l ↦ before q low l | inr l ↦ more q l high ]
 
 -- ---- several are
 

@@ -1,5 +1,5 @@
 -- Which effects need no look, and which of them a cell wakes.
-use Rattle.std.specs.Prelude.{◌≡◌, ◌⊎◌, ℕ, zero, suc, ◌==◌, nat_eq, Bool, true, false, List, [], ◌∷◌, slice_get, Option, Some, None}
+use Rattle.std.specs.Prelude.{◌≡◌, ◌⊎◌, ℕ, zero, suc, ◌+◌, ◌<◌, ◌≤◌, ◌==◌, nat_eq, Bool, true, false, List, [], ◌∷◌, slice_get, Option, Some, None}
 use Rattle.std.specs.List.{list_any, AllByRecursion}
 use Rattle.std.proofs.Common.{Vec, Global}
 use Rattle.indexmap.specs.IndexMap.{IndexMap, get}
@@ -16,6 +16,10 @@ abbrev pub is_marked : ℕ → List Bool → Bool
 is_marked p [] = false
 is_marked zero (b ∷ bs) = b
 is_marked (suc p) (b ∷ bs) = is_marked p bs
+
+-- so many from a place on are
+abbrev pub AreMarked : ℕ → ℕ → List Bool → Type 0
+AreMarked p k bs = (q : ℕ) → p ≤ q → q < p + k → is_marked q bs ≡ true
 
 -- whether a place is among these
 abbrev pub has_place : ℕ → List ℕ → Bool

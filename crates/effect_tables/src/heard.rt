@@ -1,9 +1,9 @@
 // Effects that need no look, and the cells that wake them.
-ghost use Rattle.std.specs.Prelude.{◌≡◌, ◌⊎◌, ◌==◌, [], ℕ, None, Some, true, false, nat_eq, if◌then◌else◌, map, OnOk};
+ghost use Rattle.std.specs.Prelude.{◌≡◌, ◌⊎◌, ◌==◌, ◌+◌, ◌<◌, ◌≤◌, [], ℕ, None, Some, true, false, nat_eq, if◌then◌else◌, length, map, IsTrue, OnOk};
 ghost use Rattle.std.specs.List.{AllByRecursion};
 ghost use Rattle.indexmap.specs.IndexMap.{get};
 ghost use Rattle.effect_tables.specs.Consistency.{AreRising};
-ghost use Rattle.effect_tables.specs.Heard.{has_place, is_marked, reads_at, IsHeard, IsMissed, IsWoken};
+ghost use Rattle.effect_tables.specs.Heard.{has_place, is_marked, reads_at, AreMarked, IsHeard, IsMissed, IsWoken};
 ghost use Rattle.effect_tables.specs.Placed.{effect_of};
 
 use crate::effect::Effect;
@@ -36,6 +36,63 @@ fn rouse(quiet: &mut Vec<bool>, place: usize)
     if place < quiet.len() {
         quiet[place] = false;
     }
+}
+
+// Whether two marks are set, from a place on.
+fn are_two(quiet: &[bool], place: usize) -> bool
+    requires { place + 2 ≤ length quiet.now }
+    ensures { IsTrue result → AreMarked place 2 quiet.now }
+{
+    let one = quiet[place];
+    let other = quiet[place + 1];
+    one && other
+}
+
+// Whether four are.
+fn are_four(quiet: &[bool], place: usize) -> bool
+    requires { place + 4 ≤ length quiet.now }
+    ensures { IsTrue result → AreMarked place 4 quiet.now }
+{
+    let front = are_two(quiet, place);
+    let rest = are_two(quiet, place + 2);
+    front && rest
+}
+
+// Whether eight are: they are read without a test between them.
+fn are_eight(quiet: &[bool], place: usize) -> bool
+    requires { place + 8 ≤ length quiet.now }
+    ensures { IsTrue result → AreMarked place 8 quiet.now }
+{
+    let front = are_four(quiet, place);
+    let rest = are_four(quiet, place + 4);
+    front && rest
+}
+
+// A place behind this one and marks that are set, eight at a time.
+fn past_eights(quiet: &[bool], from: usize) -> usize
+    ensures on { from ≤ result }
+    ensures passed { (p : ℕ) → from ≤ p → p < result → is_marked p quiet.now ≡ true }
+{
+    let mut place = from;
+    'passing: while quiet.len().saturating_sub(place) >= 8 {
+        if !are_eight(quiet, place) {
+            return place;
+        }
+        place += 8;
+    }
+    place
+}
+
+// The first place from this one on whose mark isn't set.
+fn past_ones(quiet: &[bool], from: usize) -> usize
+    ensures on { from ≤ result }
+    ensures passed { (p : ℕ) → from ≤ p → p < result → is_marked p quiet.now ≡ true }
+{
+    let mut place = from;
+    while place < quiet.len() && quiet[place] {
+        place += 1;
+    }
+    place
 }
 
 // So do those at these places.
@@ -164,14 +221,13 @@ impl Heard {
         self.readers.clear();
     }
 
-    /// Whether the effect at a place needs no look.
-    pub fn is_quiet(&self, place: usize) -> bool
-        ensures { result ≡ is_marked place self.now.quiet.items }
+    /// The next place from one on whose effect may need a look.
+    pub fn next_loud(&self, from: usize) -> usize
+        ensures on { from ≤ result }
+        ensures passed { (p : ℕ) → from ≤ p → p < result → is_marked p self.now.quiet.items ≡ true }
     {
-        if place < self.quiet.len() {
-            return self.quiet[place];
-        }
-        false
+        let near = past_eights(&self.quiet, from);
+        past_ones(&self.quiet, near)
     }
 
     /// A cell has another value: the effects that it wakes need a look. It takes no memory.

@@ -1,5 +1,5 @@
 -- An effect at a place is the one of its number, since numbers rise.
-use Rattle.std.proofs.Common.{◌≡◌, ◌⊎◌, inl, inr, ℕ, zero, suc, ◌+◌, ◌<◌, ◌≤◌, ◌==◌, Bool, true, false, cond, List, [], ◌∷◌, map, get_or, length, Some, refl, sym, ap, subst, ◌∙◌, arith}
+use Rattle.std.proofs.Common.{◌≡◌, ◌⊎◌, inl, inr, ℕ, zero, suc, ◌+◌, ◌<◌, ◌≤◌, ◌==◌, true, false, cond, List, [], ◌∷◌, map, length, Some, refl, sym, ap, subst, ◌∙◌, arith}
 use Rattle.std.specs.Prelude.{slice_get, slice_index_or}
 use Rattle.std.proofs.lemmas.Bool.{eq-eqb}
 use Rattle.std.proofs.lemmas.Bool.Decides.{nat_tests}
@@ -7,7 +7,6 @@ use Rattle.effect_model.specs.Worlds as plain
 use Rattle.effect_model.specs.Worlds.{effect_at}
 use Rattle.effect_tables.specs.declared.effect.Effect.{Effect}
 use Rattle.effect_tables.specs.Consistency.{AreRising}
-use Rattle.effect_tables.specs.Heard.{is_marked}
 use Rattle.effect_tables.specs.Placed.{effect_of}
 use Rattle.effect_turns.specs.Stills.{AllLower, IsLower, NoneLower, Parts, StandsAt}
 
@@ -136,19 +135,3 @@ all_more low n xs before here p l = elim (before_or p n) [
 
 pub parted : (low n : ℕ) (xs : List Effect) → AreRising 0 xs → AllLower low n xs → NoneLower low n xs → Parts low n xs
 parted low n xs up before here = record { before = before; behind = λ p l. higher_on 0 low n p xs up here l }
-
--- ---- marks
-
--- a mark that is read
-pub mark_read : (p : ℕ) (bs : List Bool) → p < length bs → get_or bs p false ≡ true → is_marked p bs ≡ true
-mark_read p [] l on = absurd (omega (arith, l))
-mark_read zero (b ∷ bs) l on = on
-mark_read (suc p) (b ∷ bs) l on = mark_read p bs (omega (arith, l)) on
-
--- marked ones, and one more
-pub marks_more : (from place : ℕ) (bs : List Bool) → ((p : ℕ) → from ≤ p → p < place → is_marked p bs ≡ true) → is_marked place bs ≡ true →
-    (p : ℕ) → from ≤ p → p < place + 1 → is_marked p bs ≡ true
-marks_more from place bs before here p low high = elim (before_or p place) [
-  | inl l ↦ before p low l
-  | inr l ↦ ap (λ q. is_marked q bs) (let e : p ≡ place = omega (arith, l, high) in e) ∙ here
-]

@@ -1,7 +1,6 @@
 // Effects that need no look.
-ghost use Rattle.std.specs.Prelude.{◌≡◌, ◌<◌, ◌≤◌, ℕ, true, IsTrue, OnOk};
+ghost use Rattle.std.specs.Prelude.{◌≡◌, IsTrue, OnOk};
 ghost use Rattle.effect_tables.specs.Consistency.{TablesAgree};
-ghost use Rattle.effect_tables.specs.Heard.{is_marked};
 ghost use Rattle.effect_tables.specs.Placed.{effect_of};
 ghost use Rattle.effect_world.specs.Stores.{Hears};
 ghost use Rattle.effect_turns.specs.Stills.{are_kept_still, IsNext, IsQuiet};
@@ -37,18 +36,6 @@ pub(crate) fn is_quiet(world: &World, place: usize, id: EffectId) -> bool
     }
 }
 
-// The first place from this one on that isn't marked.
-fn past_marked(quiet: &[bool], from: usize) -> usize
-    ensures on { from ≤ result }
-    ensures marked { (p : ℕ) → from ≤ p → p < result → is_marked p quiet.now ≡ true }
-{
-    let mut place = from;
-    while place < quiet.len() && quiet[place] {
-        place += 1;
-    }
-    place
-}
-
 /// The place of the next effect that may need a look, of those whose numbers aren't lower than this. It is looked for from a place on.
 pub(crate) fn next_loud(world: &World, near: usize, low: u128) -> usize
     requires tables { TablesAgree world.now.tables }
@@ -56,7 +43,7 @@ pub(crate) fn next_loud(world: &World, near: usize, low: u128) -> usize
     ensures { IsNext low result world.now }
 {
     let first = parting(&world.tables.effects, near, low);
-    past_marked(&world.heard.quiet, first)
+    world.heard.next_loud(first)
 }
 
 // Of how many effects at most it is noted that one cell wakes them, as each that is noted is looked for among them.

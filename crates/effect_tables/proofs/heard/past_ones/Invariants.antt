@@ -1,12 +1,12 @@
 use Rattle.std.proofs.Common.{◌≡◌, ℕ, ◌-◌, ◌<◌, ◌≤◌, length, true}
 use Rattle.effect_tables.specs.Heard.{is_marked}
-use Rattle.effect_turns.proofs.quiet.past_marked.Given as goal
+use Rattle.effect_tables.proofs.heard.past_ones.Given as goal
 
 -- those so far are marked
 abbrev pub invariant-loop-place : goal.invariant-loop-place
 invariant-loop-place l = record {
   on : l.from ≤ l.place;
-  marked : (p : ℕ) → l.from ≤ p → p < l.place → is_marked p l.quiet ≡ true;
+  passed : (p : ℕ) → l.from ≤ p → p < l.place → is_marked p l.quiet ≡ true;
 }
 
 abbrev pub decreases-loop-place : goal.decreases-loop-place

@@ -1,0 +1,12 @@
+use Rattle.std.proofs.Common.{◌+◌, false, sym, ◌∙◌, arith}
+use Rattle.effect_tables.proofs.Marks.{mark_alone, mark_at, marks_joined}
+use Rattle.effect_tables.proofs.heard.are_two.Goals as goal
+
+pub returns-then-one : goal.returns-then-one
+returns-then-one c = λ on.
+    let p = c.args.place in
+    let bs = c.args.quiet.now in
+    let l = c.requires in
+    marks_joined p 1 1 bs
+    (mark_alone p bs (sym (mark_at bs p false (omega (arith, l))) ∙ c.if-one.true))
+    (mark_alone (p + 1) bs (sym (mark_at bs (p + 1) false (omega (arith, l))) ∙ on))
