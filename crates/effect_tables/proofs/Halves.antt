@@ -1,10 +1,10 @@
 -- An effect is found by halves.
-use Rattle.std.proofs.Common.{◌≡◌, ℕ, zero, suc, ◌<◌, ◌≤◌, List, [], ◌∷◌, length, get_or, Some, None, Err, refl, sym, subst, ◌∙◌, inl, inr, arith}
+use Rattle.std.proofs.Common.{◌≡◌, ℕ, zero, suc, ◌<◌, ◌≤◌, ◌==◌, true, List, [], ◌∷◌, length, get_or, Some, None, Err, refl, sym, subst, ◌∙◌, inl, inr, arith}
 use Rattle.std.specs.List.Sorted.{IsBinarySearchResult, IsNonDecreasingBy, IsPartitionPoint}
 use Rattle.std.specs.Ordering.{nat_cmp, ordering_index}
 use Rattle.std.proofs.lemmas.Cmp.{ranked}
 use Rattle.std.specs.declared.cmp.Ordering.TheVariants.{Less, Equal, Greater}
-use Rattle.std.proofs.lemmas.Bool.{cases_lt}
+use Rattle.std.proofs.lemmas.Bool.{cases_lt, eqb-true}
 use Rattle.std.proofs.lemmas.Bool.Decides.{nat_tests}
 use Rattle.effect_tables.specs.declared.effect.Effect.{Effect}
 use Rattle.effect_tables.specs.Consistency.{AreRising}
@@ -44,6 +44,10 @@ answers_rise : (low : ℕ) (xs : List Effect) → AreRising low xs → (k : ℕ)
 answers_rise low xs o k i j d le h =
     let up = rising low xs o i j d le h in
     grind (arith, nat_tests, up)
+
+-- one that is looked at
+pub by_number : (xs : List Effect) → AreRising 0 xs → (k i : ℕ) (x : Effect) → i < length xs → (k == (get_or xs i x).id) ≡ true → effect_place k xs ≡ Some i
+by_number xs o k i x h e = is_found 0 xs o k i x h (sym (eqb-true k (get_or xs i x).id e))
 
 -- what the search says where it has found one
 pub by_hit : (xs : List Effect) → AreRising 0 xs → (k b i : ℕ) → b ≡ k → i < length xs → ((d : Effect) → nat_cmp (get_or xs i d).id b ≡ Equal) → Some i ≡ effect_place k xs

@@ -10,8 +10,24 @@ use crate::effect::Effect;
 use crate::tables::Tables;
 use sig_base::EffectId;
 
-/// The place of the effect of a number among these, whose numbers rise. It is found by halves.
-pub fn effect_place(effects: &[Effect], id: EffectId) -> Option<usize>
+// The place of an effect that stands at its own number, as each does where none has ended.
+fn own_place(effects: &[Effect], id: EffectId) -> Option<usize>
+    requires { AreRising 0 effects.now }
+    ensures { IfSome result (λ place. effect_place id effects.now ≡ Some place) }
+{
+    let number = id.number();
+    if number >= effects.len() as u128 {
+        return None;
+    }
+    let place = number as usize;
+    if id == effects[place].id {
+        return Some(place);
+    }
+    None
+}
+
+// The place of the effect of a number. It is found by halves.
+fn place_by_halves(effects: &[Effect], id: EffectId) -> Option<usize>
     requires { AreRising 0 effects.now }
     ensures { result ≡ effect_place id effects.now }
 {
@@ -21,7 +37,18 @@ pub fn effect_place(effects: &[Effect], id: EffectId) -> Option<usize>
     }
 }
 
-/// The effect of a number, where it lives. It is found by halves among all that live.
+/// The place of the effect of a number among these, whose numbers rise. Where it doesn't stand at its own number it is found by halves.
+pub fn effect_place(effects: &[Effect], id: EffectId) -> Option<usize>
+    requires { AreRising 0 effects.now }
+    ensures { result ≡ effect_place id effects.now }
+{
+    match own_place(effects, id) {
+        Some(place) => Some(place),
+        None => place_by_halves(effects, id),
+    }
+}
+
+/// The effect of a number, where it lives.
 pub fn effect_at(tables: &Tables, id: EffectId) -> Option<&Effect>
     requires { TablesAgree tables.now }
     ensures some { IfSome result (λ x. effect_at id (map effect_of tables.now.effects.items) ≡ Some (effect_of x.now)) }

@@ -2,7 +2,7 @@ use Rattle.std.proofs.Common.{rules}
 use Rattle.std.proofs.lemmas.List.Sorted.{answers_always}
 use Rattle.effect_tables.specs.declared.effect.Effect.{Effect}
 use Rattle.effect_tables.proofs.Halves.{by_gap, by_hit}
-use Rattle.effect_tables.proofs.lookup.effect_place.Goals as goal
+use Rattle.effect_tables.proofs.lookup.place_by_halves.Goals as goal
 
 pub returns-in-Ok : goal.returns-in-Ok
 returns-in-Ok c =
