@@ -82,21 +82,12 @@ lives_here from (suc p) (y ∷ ys) x up at =
     let off : (x.number == y.id) ≡ false = grind (arith, nat_tests, m) in
     ap (λ b. cond b (Some (effect_of y)) (effect_at x.number (map effect_of ys))) off ∙ lives_here (suc y.id) p ys x up.1 at
 
--- behind the last place none stands
-pub none_there : (low p : ℕ) (xs : List Effect) → length xs ≤ p → NoneLower low p xs
-none_there low p [] l x at = absurd cc
-none_there low zero (y ∷ ys) l x at = absurd (omega (arith, l))
-none_there low (suc p) (y ∷ ys) l x at = none_there low p ys (omega (arith, l)) x at
-
 -- what stands at a place, and what number it has
 pub stands_there : (p : ℕ) (xs : List Effect) (x : Effect) (e : ℕ) → p < length xs → x ≡ slice_index_or xs p x → e ≡ x.id → StandsAt e p xs
 stands_there p xs x e l is number = record { effect = effect_of x; there = at_place p xs x l is; number = sym number }
 
 pub higher_here : (low p : ℕ) (xs : List Effect) (x : Effect) → p < length xs → x ≡ slice_index_or xs p x → low ≤ x.id → NoneLower low p xs
 higher_here low p xs x l is high y at = subst (λ n. low ≤ n) (number_is (effect_of x) y (sym (at_place p xs x l is) ∙ at)) high
-
-pub lower_here : (low p : ℕ) (xs : List Effect) (x : Effect) → p < length xs → x ≡ slice_index_or xs p x → x.id < low → IsLower low p xs
-lower_here low p xs x l is lower y at = subst (λ n. n < low) (number_is (effect_of x) y (sym (at_place p xs x l is) ∙ at)) lower
 
 -- before one that is lower all are
 first_lower : (from low n : ℕ) (xs : List Effect) → AreRising from xs → n < length xs → IsLower low n xs → from < low
@@ -125,13 +116,6 @@ all_before low n k xs up l h most p m = lower_before 0 low n p xs up l h (omega 
 
 pub all_none : (low : ℕ) (xs : List Effect) → AllLower low 0 xs
 all_none low xs p l = absurd (omega (arith, l))
-
--- one place more
-pub all_more : (low n : ℕ) (xs : List Effect) → AllLower low n xs → IsLower low n xs → AllLower low (n + 1) xs
-all_more low n xs before here p l = elim (before_or p n) [
-  | inl k ↦ before p k
-  | inr k ↦ subst (λ q. IsLower low q xs) (let e : n ≡ p = omega (arith, l, k) in e) here
-]
 
 pub parted : (low n : ℕ) (xs : List Effect) → AreRising 0 xs → AllLower low n xs → NoneLower low n xs → Parts low n xs
 parted low n xs up before here = record { before = before; behind = λ p l. higher_on 0 low n p xs up here l }

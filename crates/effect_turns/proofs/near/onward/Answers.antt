@@ -1,4 +1,4 @@
-use Rattle.effect_turns.proofs.Nearby.{all_more, parted}
+use Rattle.effect_turns.proofs.Nearby.{parted}
 use Rattle.effect_turns.proofs.near.onward.Goals as goal
 
 pub returns : goal.returns
