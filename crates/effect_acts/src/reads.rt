@@ -30,7 +30,7 @@ pub fn keep_reads(
     let alloc = *events.allocator();
     world.heard.miss(&world.tables.effects, id);
     let names = sig_untrack::names(alloc, &reads)?;
-    world.tables.keep(alloc, id, &reads)?;
+    world.tables.keep(id, reads);
     events.push(Event::Body(id, names))?;
     Ok(())
 }

@@ -1,11 +1,10 @@
-use Rattle.std.proofs.Common.{◌≡◌, List, map, refl, ap, ◌∙◌, sym, subst, arith}
+use Rattle.std.proofs.Common.{map, refl, ap, ◌∙◌, sym, subst, arith}
 use Rattle.signal_model.specs.Sound.{names_of}
-use Rattle.signal_model.specs.Values.{Seen}
 use Rattle.effect_model.specs.Runs.{keep_reads}
 use Rattle.effect_model.specs.Worlds.{World, body_ran}
 use Rattle.effect_tables.specs.Runs.{with_kept}
 use Rattle.effect_tables.specs.Heard.{IsMissed}
-use Rattle.effect_tables.specs.Placed.{effect_of, placed}
+use Rattle.effect_tables.specs.Placed.{effect_of}
 use Rattle.effect_tables.proofs.Shared.{kept_heard}
 use Rattle.sig_effect.specs.Wholes as wholes
 use Rattle.effect_world.specs.Wholes.{stores_of}
@@ -18,14 +17,14 @@ pub returns-clause-done : goal.returns-clause-done
 returns-clause-done c = λ asked slacks a.
     acted_tabled slacks c.args.world.now c.keep.new.self c.miss.new.self asked _ _ (event.Body c.args.id c.in_ok-names.names) (body_ran c.args.id (names_of c.args.reads.items)) (λ env. keep_reads c.args.id c.args.reads.items)
     (with_kept c.args.id c.args.reads.items)
-    (subst (λ (ss : List Seen). (w : World) → placed c.keep.new.self w ≡ with_kept c.args.id ss (placed c.args.world.now.tables w)) c.deref-3.ensures.value c.in_ok-keep.ensures.does)
+    c.keep.ensures.does
     (λ env. refl) refl (ap (body_ran c.args.id) (sym (c.in_ok-names.ensures ∙ ap names_of c.deref-2.ensures.value))) c.in_ok-push.ensures.items
     (let m = c.keep.ensures.made in omega (arith, m))
-    (owned_kept c.args.world.now c.keep.new.self c.keep.ensures.store c.keep.ensures.owners c.in_ok-keep.ensures.holds a.owned)
-    (kept_heard c.args.id c.deref-3.result.now c.args.world.now.graph.state.signals c.args.world.now.heard c.miss.new.self (map effect_of c.args.world.now.tables.effects.items)
+    (owned_kept c.args.world.now c.keep.new.self c.keep.ensures.store c.keep.ensures.owners c.keep.ensures.holds a.owned)
+    (kept_heard c.args.id c.args.reads.items c.args.world.now.graph.state.signals c.args.world.now.heard c.miss.new.self (map effect_of c.args.world.now.tables.effects.items)
     (map effect_of c.keep.new.self.effects.items)
     (subst (λ xs. IsMissed c.args.id (map effect_of xs) c.args.world.now.heard c.miss.new.self) c.deref.ensures.value c.miss.ensures)
-    (ap (λ (w : World). w.effects) (c.in_ok-keep.ensures.does (wholes.whole_of asked (stores_of c.args.world.now)))) a.heard) a
+    (ap (λ (w : World). w.effects) (c.keep.ensures.does (wholes.whole_of asked (stores_of c.args.world.now)))) a.heard) a
 
 pub returns-clause-told : goal.returns-clause-told
 returns-clause-told c = one_told _ _ _ c.in_ok-push.ensures.items

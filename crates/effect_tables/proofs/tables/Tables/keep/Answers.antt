@@ -9,8 +9,8 @@ use Rattle.effect_tables.proofs.tables.Tables.keep.Goals as goal
 
 pub returns-in_default-clause-does : goal.returns-in_default-clause-does
 returns-in_default-clause-does c =
-    kept_does c.args.id c.args.reads.now c.args.self.now c.args.self.now refl
-    (kept_nowhere c.args.id c.args.reads.now c.args.self.now.effects.items (none_in _ _ _ c.deref.ensures.value c.in_default.ensures))
+    kept_does c.args.id c.args.reads.items c.args.self.now c.args.self.now refl
+    (kept_nowhere c.args.id c.args.reads.items c.args.self.now.effects.items (none_in _ _ _ c.deref.ensures.value c.in_default.ensures))
 
 pub index_mut-requires : goal.index_mut-requires
 index_mut-requires c =
@@ -20,14 +20,14 @@ index_mut-requires c =
 pub returns-clause-does : goal.returns-clause-does
 returns-clause-does c =
     let t : Tables = record (c.args.self.now) { effects = with_item (c.args.self.now.effects) c.in-Some.place c.keep_in.new.effect } in
-    kept_does c.args.id c.args.reads.now c.args.self.now t refl
-    (kept_there c.args.id c.args.reads.now 0 c.args.self.now.effects.items c.in-Some.place c.keep_in.new.effect c.index_mut.result.now c.requires.ordered.rising
-    (found_in _ _ _ _ c.deref.ensures.value c.in-Some.ensures) (subst (λ (x : Effect). IsKept c.args.reads.now x c.keep_in.new.effect) c.index_mut.ensures.value c.in_ok-keep_in.ensures))
+    kept_does c.args.id c.args.reads.items c.args.self.now t refl
+    (kept_there c.args.id c.args.reads.items 0 c.args.self.now.effects.items c.in-Some.place c.keep_in.new.effect c.index_mut.result.now c.requires.ordered.rising
+    (found_in _ _ _ _ c.deref.ensures.value c.in-Some.ensures) (subst (λ (x : Effect). IsKept c.args.reads.items x c.keep_in.new.effect) c.index_mut.ensures.value c.keep_in.ensures))
 
 pub returns-clause-holds : goal.returns-clause-holds
 returns-clause-holds c =
     let t : Tables = record (c.args.self.now) { effects = with_item (c.args.self.now.effects) c.in-Some.place c.keep_in.new.effect } in
-    kept_holds c.args.id c.args.reads.now c.args.self.now t refl
-    (kept_there c.args.id c.args.reads.now 0 c.args.self.now.effects.items c.in-Some.place c.keep_in.new.effect c.index_mut.result.now c.requires.ordered.rising
-    (found_in _ _ _ _ c.deref.ensures.value c.in-Some.ensures) (subst (λ (x : Effect). IsKept c.args.reads.now x c.keep_in.new.effect) c.index_mut.ensures.value c.in_ok-keep_in.ensures))
+    kept_holds c.args.id c.args.reads.items c.args.self.now t refl
+    (kept_there c.args.id c.args.reads.items 0 c.args.self.now.effects.items c.in-Some.place c.keep_in.new.effect c.index_mut.result.now c.requires.ordered.rising
+    (found_in _ _ _ _ c.deref.ensures.value c.in-Some.ensures) (subst (λ (x : Effect). IsKept c.args.reads.items x c.keep_in.new.effect) c.index_mut.ensures.value c.keep_in.ensures))
     c.requires
