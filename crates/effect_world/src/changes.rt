@@ -92,7 +92,6 @@ impl World {
         let left = self.graph.rewire(id, recipe, slots)?;
         tell_change(events, id, How::Rewire)?;
         drop_left(shelf, left, events)?;
-        self.heard.forget();
         Ok(())
     }
 }

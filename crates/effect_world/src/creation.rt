@@ -64,10 +64,7 @@ impl World {
         }
         let id = self.graph.add_cell(value, rule)?;
         match self.tables.adopt_signal(id, inside) {
-            Ok(()) => {
-                self.heard.forget();
-                Ok(id)
-            }
+            Ok(()) => Ok(id),
             Err(_) => Err(EffectFault::NoMemory),
         }
     }
@@ -105,10 +102,7 @@ impl World {
         }
         let id = self.graph.add_computed(recipe, slots)?;
         match self.tables.adopt_signal(id, inside) {
-            Ok(()) => {
-                self.heard.forget();
-                Ok(id)
-            }
+            Ok(()) => Ok(id),
             Err(_) => Err(EffectFault::NoMemory),
         }
     }
@@ -131,7 +125,6 @@ impl World {
             (length (living 0 self.old.tables.owners.items) < MOST_OWNERS) (MOST_OWNERS ≤ length (living 0 self.old.tables.owners.items)) (self.new ≡ self.old) }
     {
         let id = self.tables.make_owner(inside)?;
-        self.heard.forget();
         Ok(id)
     }
 
@@ -183,7 +176,6 @@ impl World {
             (length self.old.tables.pages.items < MOST_PAGES) (MOST_PAGES ≤ length self.old.tables.pages.items) (self.new ≡ self.old) }
     {
         let id = self.tables.make_page(inside)?;
-        self.heard.forget();
         Ok(id)
     }
 }

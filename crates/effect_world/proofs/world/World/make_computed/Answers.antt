@@ -13,7 +13,7 @@ use Rattle.effect_world.specs.declared.world.World.{World}
 use Rattle.effect_world.specs.Wholes.{stores_of}
 use Rattle.effect_world.proofs.Worlds.{computed_done, host_same, owned_more}
 use Rattle.effect_tables.specs.Placed.{effect_of}
-use Rattle.effect_tables.proofs.Shared.{none_heard}
+use Rattle.effect_world.proofs.Kept.{computed_heard}
 use Rattle.effect_world.proofs.world.World.make_computed.Goals as goal
 
 pub add_computed-requires-clause-given : goal.add_computed-requires-clause-given
@@ -32,7 +32,7 @@ returns-in-Ok-clause-made c =
 
 pub returns-in-Ok-clause-does : goal.returns-in-Ok-clause-does
 returns-in-Ok-clause-does c = λ hosts asked a free sound.
-    let new : World = record { graph = c.add_computed.new.self; watchers = c.args.self.now.watchers; tables = c.adopt_signal.new.self; heard = c.forget.new.self } in
+    let new : World = record { graph = c.add_computed.new.self; watchers = c.args.self.now.watchers; tables = c.adopt_signal.new.self; heard = c.args.self.now.heard } in
     let r : Recipe = recipe_made (expression_of c.args.recipe) c.args.slots.items in
     let m = c.in_ok-id.ensures.after in
     computed_done hosts asked c.args.self.now new r c.args.inside c.in_ok-id.id m.id
@@ -42,7 +42,7 @@ returns-in-Ok-clause-does c = λ hosts asked a free sound.
 
 pub returns-in-Ok-clause-agrees : goal.returns-in-Ok-clause-agrees
 returns-in-Ok-clause-agrees c = λ asked a free.
-    let new : World = record { graph = c.add_computed.new.self; watchers = c.args.self.now.watchers; tables = c.adopt_signal.new.self; heard = c.forget.new.self } in
+    let new : World = record { graph = c.add_computed.new.self; watchers = c.args.self.now.watchers; tables = c.adopt_signal.new.self; heard = c.args.self.now.heard } in
     let r : Recipe = recipe_made (expression_of c.args.recipe) c.args.slots.items in
     let m = c.in_ok-id.ensures.after in
     record {
@@ -50,7 +50,9 @@ returns-in-Ok-clause-agrees c = λ asked a free.
           (sym (host_same (host_of (expression_of c.args.recipe)) c.args.self.now.tables (wholes.whole_of asked (stores_of c.args.self.now))) ∙ free);
       owned = owned_more c.args.self.now new c.args.inside c.in_ok-id.id m.id m.given
           (ap (λ (w : plain.World). w.owned) (c.in-Ok.ensures.makes.does (wholes.whole_of asked (stores_of new)))) c.in-Ok.ensures.makes.holds c.in-Ok.ensures.makes.signals a.owned;
-      heard = none_heard c.add_computed.new.self.state.signals c.forget.new.self (map effect_of c.adopt_signal.new.self.effects.items) c.forget.ensures;
+      heard = computed_heard c.args.self.now.graph.state.signals c.add_computed.new.self.state.signals (record { name = c.in_ok-id.id; recipe = r }) c.args.self.now.heard
+          (map effect_of c.args.self.now.tables.effects.items) (map effect_of c.adopt_signal.new.self.effects.items) (ap (λ (s : State). s.signals) m.state)
+          (ap (λ (w : plain.World). w.effects) (c.in-Ok.ensures.makes.does (wholes.whole_of asked (stores_of new)))) a.heard;
     }
 
 pub returns-in-Ok-clause-ruled : goal.returns-in-Ok-clause-ruled

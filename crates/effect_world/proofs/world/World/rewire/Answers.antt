@@ -19,7 +19,7 @@ use Rattle.effect_world.specs.Wholes.{stores_of}
 use Rattle.effect_world.proofs.Told.{more_told, one_told}
 use Rattle.effect_world.proofs.Worlds.{host_same, owned_still, signals_done}
 use Rattle.effect_tables.specs.Placed.{effect_of}
-use Rattle.effect_tables.proofs.Shared.{none_heard}
+use Rattle.effect_world.proofs.Kept.{recipe_heard}
 use Rattle.effect_world.proofs.world.World.rewire.Goals as goal
 
 pub drop_left-requires-clause-there : goal.drop_left-requires-clause-there
@@ -40,7 +40,7 @@ rewire-requires-clause-worn g c = c.requires.can.worn
 pub returns-clause-done : goal.returns-clause-done
 returns-clause-done g c = λ slacks.
     let old : World = c.args.self.now in
-    let new : World = record { graph = c.rewire.new.self; watchers = old.watchers; tables = old.tables; heard = c.forget.new.self } in
+    let new : World = record { graph = c.rewire.new.self; watchers = old.watchers; tables = old.tables; heard = old.heard } in
     let r : Recipe = recipe_made (expression_of c.args.recipe) c.args.slots.items in
     let w : Signals = old.graph.state.signals in
     let b = c.in_ok-left.ensures.after in
@@ -62,7 +62,7 @@ returns-clause-done g c = λ slacks.
         signals = rewire_agreed _ _ (stores_of old) (stores_of new) c.args.id r c.in_ok-left.left c.requires.can.kind there b refl free
             c.in_ok-left.ensures.host c.in_ok-drop_left.ensures.asked c.requires.agrees.signals;
         owned = owned_still old new b.given refl c.requires.agrees.owned;
-        heard = none_heard c.rewire.new.self.state.signals c.forget.new.self (map effect_of old.tables.effects.items) c.forget.ensures;
+        heard = recipe_heard w c.rewire.new.self.state.signals c.args.id r old.heard (map effect_of old.tables.effects.items) (ap (λ (x : State). x.signals) b.state) c.requires.agrees.heard;
       };
       answers = c.in_ok-drop_left.ensures.answers;
       most = most_left c.in_ok-left.left _ _ c.in_ok-drop_left.ensures.asked;
