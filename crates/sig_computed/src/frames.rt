@@ -53,6 +53,9 @@ pub(crate) struct Open {
     pub(crate) needed: NodeId,
     /// What its run came to, where the turn says so.
     pub(crate) outcome: Outcome,
+    // What is put aside next goes into one of these, which held what was put aside before, and leaves its lists for what is learnt
+    // meanwhile. So a settling makes as many as wait at once at most.
+    spares: Vec<Box<Learnt>>,
 }
 
 /// A computed around it, which waits for a source. What it has learnt stands apart, so that a frame is small: none where that is nothing.
@@ -143,6 +146,7 @@ impl Open {
             learnt: Learnt::new(alloc),
             needed: id,
             outcome: Outcome::Bad(Fault::Cycle),
+            spares: Vec::new(alloc),
         }
     }
 }
@@ -156,12 +160,27 @@ pub(crate) fn begin_run(frame: &mut Open)
     frame.doing = Doing::Running;
 }
 
-// Takes what was learnt, to be kept apart.
-fn put_aside(alloc: Global, learnt: &mut Learnt) -> Result<Box<Learnt>, NoMemory>
+// One of those that are there, or else a new one.
+fn spare_or_new(alloc: Global, spares: &mut Vec<Box<Learnt>>) -> Result<Box<Learnt>, NoMemory> {
+    match spares.pop() {
+        Some(learnt) => Ok(learnt),
+        None => {
+            let learnt = Box::new(alloc, Learnt::new(alloc))?;
+            Ok(learnt)
+        }
+    }
+}
+
+// Takes what was learnt, to be kept apart. What stands in its place then doesn't count.
+fn put_aside(
+    alloc: Global,
+    spares: &mut Vec<Box<Learnt>>,
+    learnt: &mut Learnt,
+) -> Result<Box<Learnt>, NoMemory>
     ensures { IfOk result (λ aside. aside.value ≡ learnt.old) }
 {
-    let aside = mem::replace(learnt, Learnt::new(alloc));
-    let aside = Box::new(alloc, aside)?;
+    let mut aside = spare_or_new(alloc, spares)?;
+    mem::swap(&mut *aside, learnt);
     Ok(aside)
 }
 
@@ -176,7 +195,7 @@ fn take_learnt(alloc: Global, frame: &mut Open) -> Result<Option<Box<Learnt>>, N
         Doing::Looking(_) => Ok(None),
         Doing::LookedAt(_) => Ok(None),
         _ => {
-            let aside = put_aside(alloc, &mut frame.learnt)?;
+            let aside = put_aside(alloc, &mut frame.spares, &mut frame.learnt)?;
             Ok(Some(aside))
         }
     }
@@ -208,6 +227,25 @@ fn take_nothing(doing: Doing, learnt: &mut Learnt)
     }
 }
 
+// Keeps one for the next time, or lets it go where there is no room for one more.
+fn keep_spare(spares: &mut Vec<Box<Learnt>>, learnt: Box<Learnt>) {
+    match spares.push(learnt) {
+        Ok(_) => {}
+        Err(_) => {}
+    }
+}
+
+// What was put aside is again what a frame has learnt, and what it has now is left for the next time.
+fn take_back(frame: &mut Open, aside: Box<Learnt>)
+    ensures learnt { frame.new.learnt ≡ aside.value }
+    ensures id { frame.new.id ≡ frame.old.id }
+    ensures doing { frame.new.doing ≡ frame.old.doing }
+{
+    let mut aside = aside;
+    mem::swap(&mut frame.learnt, &mut *aside);
+    keep_spare(&mut frame.spares, aside);
+}
+
 // A frame is again what it was before it waited.
 fn take_up(frame: &mut Open, outer: Outer)
     ensures { frame_of frame.new ≡ outer_of outer }
@@ -216,7 +254,7 @@ fn take_up(frame: &mut Open, outer: Outer)
     frame.id = id;
     frame.doing = doing;
     match learnt {
-        Some(learnt) => frame.learnt = Box::into_inner(learnt),
+        Some(learnt) => take_back(frame, learnt),
         None => take_nothing(doing, &mut frame.learnt),
     }
 }
