@@ -5,17 +5,18 @@ ghost use Rattle.std.specs.Int.{w64};
 ghost use Rattle.std.specs.Int.RustNames.{FitsSigned};
 ghost use Rattle.live_cmd.specs.Views.{IsPlain};
 
+use crate::known::KnownNames;
 use crate::{Bare, Command, Item, Verb};
-use line_forms::{Unread, as_name};
+use line_forms::Unread;
 use sig_base::Scalar;
 use sig_words::integer;
 use std::alloc::Global;
 
 // `get N`, behind the word and a blank.
-fn get(alloc: Global, text: &[u8]) -> Result<Item, Unread>
+fn get(alloc: Global, known: &mut KnownNames, text: &[u8]) -> Result<Item, Unread>
     ensures { (k : ℕ) → IfOk result (λ i. IsPlain (k, codes "get " ++ text.now) i) }
 {
-    let name = as_name(alloc, text)?;
+    let name = known.name(alloc, text)?;
     let verb = Verb::Get;
     Ok(Item::Do(Command::Named { verb, name }))
 }
@@ -44,7 +45,7 @@ fn whole(text: &[u8]) -> Option<i64>
 }
 
 // `set N LIT` with a whole number, behind the word and a blank.
-fn set(alloc: Global, text: &[u8]) -> Result<Item, Unread>
+fn set(alloc: Global, known: &mut KnownNames, text: &[u8]) -> Result<Item, Unread>
     ensures { (k : ℕ) → IfOk result (λ i. IsPlain (k, codes "set " ++ text.now) i) }
 {
     let Some((name, number)) = parted(text) else {
@@ -53,7 +54,7 @@ fn set(alloc: Global, text: &[u8]) -> Result<Item, Unread>
     let Some(value) = whole(number) else {
         return Err(Unread::NotThere);
     };
-    let name = as_name(alloc, name)?;
+    let name = known.name(alloc, name)?;
     let value = Scalar::Int(value);
     Ok(Item::Do(Command::Set { name, value }))
 }
@@ -77,7 +78,7 @@ fn word_alone(line: &[u8]) -> Result<Item, Unread>
 }
 
 /// What one of the commonest lines is; nothing of another, even where it says something.
-pub fn common_item(alloc: Global, line: &[u8]) -> Result<Item, Unread>
+pub fn common_item(alloc: Global, known: &mut KnownNames, line: &[u8]) -> Result<Item, Unread>
     ensures { (k : ℕ) → IfOk result (λ i. IsPlain (k, line.now) i) }
 {
     if line.len() < 4 {
@@ -85,10 +86,10 @@ pub fn common_item(alloc: Global, line: &[u8]) -> Result<Item, Unread>
     }
     let (front, text) = line.split_at(4);
     if front == b"get ".as_slice() {
-        return get(alloc, text);
+        return get(alloc, known, text);
     }
     if front == b"set ".as_slice() {
-        return set(alloc, text);
+        return set(alloc, known, text);
     }
     word_alone(line)
 }

@@ -1,5 +1,5 @@
 // Reads the items of a script.
-ghost use Rattle.std.specs.Prelude.{◌≡◌, ◌+◌, ◌-◌, ◌^◌, ◌<◌, ◌≤◌, [], false, length, drop, Ok, IfOk, IfSome, MatchOption, IsTrue, nat_lt};
+ghost use Rattle.std.specs.Prelude.{◌≡◌, ◌+◌, ◌-◌, ◌^◌, ◌<◌, ◌≤◌, [], false, length, drop, None, Ok, IfOk, IfSome, MatchOption, IsTrue, nat_lt};
 ghost use Rattle.std.specs.List.{list_any};
 ghost use Rattle.script_lines.specs.Pieces.{pieces_of};
 ghost use Rattle.script_lines.specs.Views.{line_of, piece_of};
@@ -11,6 +11,7 @@ use crate::block::block_of;
 use crate::common::common_item;
 use crate::fields::has_many_fields;
 use crate::judge::refused_for;
+use crate::known::KnownNames;
 use crate::line::Found;
 use crate::reader::read_line;
 use crate::{Item, Line};
@@ -92,11 +93,11 @@ fn told_by_tokens(alloc: Global, line: NumberedLine) -> Result<Item, NoMemory>
 }
 
 // What a line is that begins no block. The commonest lines are looked at before all others.
-fn plain_item(alloc: Global, line: NumberedLine) -> Result<Item, NoMemory>
+fn plain_item(alloc: Global, known: &mut KnownNames, line: NumberedLine) -> Result<Item, NoMemory>
     requires { length line.text.now ≤ MOST_LINE }
     ensures { IfOk result (λ i. IsPlain (line_of line.entry) i) }
 {
-    match common_item(alloc, line.text) {
+    match common_item(alloc, known, line.text) {
         Ok(item) => Ok(item),
         Err(Unread::NotThere) => told_by_tokens(alloc, line),
         Err(Unread::NoMemory(e)) => Err(e),
@@ -121,7 +122,7 @@ fn has_long(piece: &Piece) -> bool
 }
 
 // What a piece of a script is.
-fn item_of(alloc: Global, piece: &Piece) -> Result<Item, NoMemory>
+fn item_of(alloc: Global, known: &mut KnownNames, piece: &Piece) -> Result<Item, NoMemory>
     ensures { IfOk result (λ i. IsItem (piece_of piece.now) i) }
 {
     if has_long(piece) {
@@ -133,7 +134,7 @@ fn item_of(alloc: Global, piece: &Piece) -> Result<Item, NoMemory>
     if let Some(item) = block_of(alloc, piece.first, &piece.others)? {
         return Ok(item);
     }
-    let item = plain_item(alloc, piece.first)?;
+    let item = plain_item(alloc, known, piece.first)?;
     Ok(item)
 }
 
@@ -147,9 +148,10 @@ fn item_of(alloc: Global, piece: &Piece) -> Result<Item, NoMemory>
 /// `MOST_HEIGHT`, or what is nested more than its grammar allows; the first line with a text of more than `MOST_TEXT` bytes, a list of more
 /// than `MOST_FIELDS` fields, a formula of more than `MOST_SOURCES` names or a host formula of more arguments; the body of an effect or of a
 /// handler of more than `MOST_BODY_LINES` lines, a template of more than `MOST_TEMPLATE_LINES`.
-/// `NoMemory` where the item finds no room.
+/// Names that are known need no room; those of the commonest lines are known from then on. `NoMemory` where the item finds no room.
 pub fn next_item(
     alloc: Global,
+    known: &mut KnownNames,
     script: &[u8],
     at: usize,
     line: u32,
@@ -159,11 +161,12 @@ pub fn next_item(
     requires count { line < 2 ^ 31 }
     ensures within { IfOk result (λ found. IfSome found (λ x. (at < x.1) × (x.1 ≤ length script.now))) }
     ensures count { IfOk result (λ found. IfSome found (λ x. x.2 ≤ line + (x.1 - at))) }
+    ensures known { IfOk result (λ found. found ≡ None → known.new ≡ known.old) }
     ensures item { IfOk result (λ found. MatchOption found (pieces_of line (drop at script.now) ≡ []) (λ x. Begins script.now at line x.0 x.1 x.2)) }
 {
     let Some((piece, next, after)) = next_piece(alloc, script, at, line)? else {
         return Ok(None);
     };
-    let found = item_of(alloc, &piece)?;
+    let found = item_of(alloc, known, &piece)?;
     Ok(Some((found, next, after)))
 }

@@ -12,7 +12,7 @@ ghost use Rattle.live_model.specs.Machine.{empty};
 ghost use Rattle.live_core.specs.Consistency.{IsReadItem, SomeHosts};
 ghost use Rattle.live_run.specs.Jobs.{DidItem, DidNext};
 
-use live_cmd::{Item, next_item};
+use live_cmd::{Item, KnownNames, next_item};
 use live_items::{Live, Running};
 use live_report::Report;
 use live_words::ScriptJob;
@@ -21,11 +21,12 @@ use sig_host::{EqualsRule, HostFormula, Lent, Shelf};
 use std::alloc::Global;
 use std::mem;
 
-/// The machine, the report of what the items told so far, and the output that isn't handed on yet.
+/// The machine, the report of what the items told so far, the names that are known, and the output that isn't handed on yet.
 #[derive(Drop)]
 pub(crate) struct ScriptRun {
     pub(crate) live: Live,
     pub(crate) report: Report,
+    pub(crate) known: KnownNames,
     pub(crate) out: Vec<u8>,
 }
 
@@ -53,8 +54,17 @@ impl ScriptRun {
     {
         let report = Report::new(alloc, job)?;
         let live = Live::new(alloc, hosts, rules)?;
+        let known = KnownNames::new(alloc)?;
         let out = Vec::new(alloc);
-        let run = Box::new(alloc, ScriptRun { live, report, out })?;
+        let run = Box::new(
+            alloc,
+            ScriptRun {
+                live,
+                report,
+                known,
+                out,
+            },
+        )?;
         Ok(run)
     }
 
@@ -115,7 +125,7 @@ impl ScriptRun {
         ensures done { OnOk result (self.new.live.done ≤ self.old.live.done + 1) }
         ensures little { OnOk result (counted self.new.report ≤ counted self.old.report + (1 + 2 ^ 64)) }
     {
-        let Some((item, next, after)) = next_item(alloc, script, at, line)? else {
+        let Some((item, next, after)) = next_item(alloc, &mut self.known, script, at, line)? else {
             return Ok(None);
         };
         self.do_item(item)?;

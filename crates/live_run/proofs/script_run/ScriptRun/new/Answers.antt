@@ -17,3 +17,6 @@ returns-clause-kept g c = rw c.in_ok-run.ensures.ok c.in_ok-live.ensures.kept
 
 pub returns-clause-counted : goal.returns-clause-counted
 returns-clause-counted g c = rw c.in_ok-run.ensures.ok c.in_ok-live.ensures.counted
+
+pub returns-clause-prints : goal.returns-clause-prints
+returns-clause-prints g c = λ is es. rw c.in_ok-run.ensures.ok (c.in_ok-report.ensures.prints is es)

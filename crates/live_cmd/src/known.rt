@@ -1,0 +1,78 @@
+// Names that were read lately.
+ghost use Rattle.std.specs.Prelude.{◌≡◌, Some, IfOk, IfSome};
+ghost use Rattle.line_forms.specs.Reader.{name_of};
+ghost use Rattle.sig_words.specs.Lexemes.{word};
+
+use line_forms::{Unread, as_name};
+use sig_base::{Name, NoMemory};
+use std::alloc::Global;
+
+/// How many names are known at most.
+const PLACES: usize = 1024;
+
+/// Names that were read lately, each at the place that its bytes give it, where the next one with that place takes it. One that comes again is
+/// neither judged nor put into memory again: it shares the bytes of the one that is known.
+#[derive(Drop)]
+pub struct KnownNames {
+    names: Vec<Option<Name>>,
+}
+
+// The place of a text.
+fn place_of(text: &[u8]) -> usize {
+    let mut place: usize = 0;
+    for byte in text {
+        place = place.wrapping_mul(31).wrapping_add(*byte as usize);
+    }
+    place % PLACES
+}
+
+// The name at a place, where a text is this name.
+fn known_at<'a>(names: &'a [Option<Name>], place: usize, text: &[u8]) -> Option<&'a Name>
+    ensures { IfSome result (λ n. Some n.now ≡ name_of (word text.now)) }
+{
+    let name = names.get(place)?.as_ref()?;
+    let _count = name.len();
+    if name.as_str().as_bytes() == text {
+        Some(name)
+    } else {
+        None
+    }
+}
+
+// Keeps a name at a place.
+fn keep(names: &mut [Option<Name>], place: usize, name: &Name) -> Result<(), NoMemory> {
+    let Some(known) = names.get_mut(place) else {
+        return Ok(());
+    };
+    *known = Some(name.copy()?);
+    Ok(())
+}
+
+impl KnownNames {
+    /// No names.
+    ///
+    /// # Errors
+    ///
+    /// `NoMemory` where it finds no room.
+    pub fn new(alloc: Global) -> Result<KnownNames, NoMemory> {
+        let mut names = Vec::with_capacity(alloc, PLACES)?;
+        for _ in 0..PLACES {
+            names.push(None)?;
+        }
+        Ok(KnownNames { names })
+    }
+
+    /// The name that a text is, which is known from then on.
+    pub(crate) fn name(&mut self, alloc: Global, text: &[u8]) -> Result<Name, Unread>
+        ensures { IfOk result (λ n. Some n ≡ name_of (word text.now)) }
+    {
+        let place = place_of(text);
+        if let Some(name) = known_at(&self.names, place, text) {
+            let name = name.copy()?;
+            return Ok(name);
+        }
+        let name = as_name(alloc, text)?;
+        keep(&mut self.names, place, &name)?;
+        Ok(name)
+    }
+}
