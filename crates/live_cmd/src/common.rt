@@ -77,18 +77,33 @@ fn word_alone(line: &[u8]) -> Result<Item, Unread>
     Err(Unread::NotThere)
 }
 
+// What stands behind a byte with which bytes begin.
+fn behind(line: &[u8], byte: u8) -> Option<&[u8]>
+    ensures { IfSome result (λ rest. line.now ≡ byte ∷ rest.now) }
+{
+    let (first, rest) = line.split_first()?;
+    if *first == byte { Some(rest) } else { None }
+}
+
+// What stands behind a word of three bytes and a blank.
+fn behind_word(line: &[u8], first: u8, second: u8, third: u8) -> Option<&[u8]>
+    ensures { IfSome result (λ rest. line.now ≡ first ∷ second ∷ third ∷ 32 ∷ rest.now) }
+{
+    let rest = behind(line, first)?;
+    let rest = behind(rest, second)?;
+    let rest = behind(rest, third)?;
+    let rest = behind(rest, b' ')?;
+    Some(rest)
+}
+
 /// What one of the commonest lines is; nothing of another, even where it says something.
 pub fn common_item(alloc: Global, known: &mut KnownNames, line: &[u8]) -> Result<Item, Unread>
     ensures { (k : ℕ) → IfOk result (λ i. IsPlain (k, line.now) i) }
 {
-    if line.len() < 4 {
-        return Err(Unread::NotThere);
-    }
-    let (front, text) = line.split_at(4);
-    if front == b"get ".as_slice() {
+    if let Some(text) = behind_word(line, b'g', b'e', b't') {
         return get(alloc, known, text);
     }
-    if front == b"set ".as_slice() {
+    if let Some(text) = behind_word(line, b's', b'e', b't') {
         return set(alloc, known, text);
     }
     word_alone(line)
