@@ -251,6 +251,7 @@ fn put_some(told: &mut Vec<Entry>, entry: Option<Entry>) -> Result<(), NoMemory>
 }
 
 // Tells of an event, and what is called otherwise from then on, whatever event it is.
+#[inline(never)]
 fn tell_any(told: &mut Vec<Entry>, labels: &mut Labels, event: &Event) -> Result<(), NoMemory>
     ensures entries { OnOk result (told.new.items ≡ told.old.items ++ entries_told (labels_of labels.old) event.now) }
     ensures labels { OnOk result (labels_of labels.new ≡ renamed event.now (labels_of labels.old)) }
@@ -263,7 +264,7 @@ fn tell_any(told: &mut Vec<Entry>, labels: &mut Labels, event: &Event) -> Result
     Ok(())
 }
 
-// Tells of an event, and what is called otherwise from then on. Most events are runs, of which nothing is called otherwise.
+// Tells of an event, and what is called otherwise from then on. Most events are runs and changes, of which nothing is called otherwise.
 fn tell_one(told: &mut Vec<Entry>, labels: &mut Labels, event: &Event) -> Result<(), NoMemory>
     ensures entries { OnOk result (told.new.items ≡ told.old.items ++ entries_told (labels_of labels.old) event.now) }
     ensures labels { OnOk result (labels_of labels.new ≡ renamed event.now (labels_of labels.old)) }
@@ -274,6 +275,7 @@ fn tell_one(told: &mut Vec<Entry>, labels: &mut Labels, event: &Event) -> Result
             put_run(told, &labels.signals, note)?;
             Ok(())
         }
+        Event::Change(_, _) => Ok(()),
         _ => {
             tell_any(told, labels, event)?;
             Ok(())
