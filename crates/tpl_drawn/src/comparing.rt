@@ -5,6 +5,7 @@ mod keeping;
 mod kept;
 mod laws;
 mod node_marks;
+mod texts;
 
 pub use comparer::compared;
 pub use laws::compare_law;

@@ -11,7 +11,7 @@ pub children_after : (known : ℕ → Option ℕ) (x y : Forest Look) → childr
 children_after known none y = refl
 children_after known (node a l k r) y = ap (λ z. next_of (known a) (node a l k none) ∷ z) (children_after known r y)
 
-marks_after : (known : ℕ → Option ℕ) (x y : Forest Look) → marks_in known (after x y) ≡ marks_in known x ++ marks_in known y
+pub marks_after : (known : ℕ → Option ℕ) (x y : Forest Look) → marks_in known (after x y) ≡ marks_in known x ++ marks_in known y
 marks_after known none y = refl
 marks_after known (node a l k r) y =
     let first = marked_at (known a) l (children_in known k) (marks_in known k) in

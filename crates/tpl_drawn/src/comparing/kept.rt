@@ -25,6 +25,37 @@ use std::alloc::Global;
 use tpl_blocks::Block;
 use tpl_model::{Child, PageMemo};
 
+/// Appends a text as a child, where children are listed: by its number where it has one; otherwise it comes.
+///
+/// # Errors
+///
+/// `NoMemory` alone.
+pub(crate) fn put_text_child(
+    alloc: Global,
+    listed: bool,
+    number: Option<u64>,
+    line: usize,
+    key: Option<&Text>,
+    memo: &PageMemo,
+    children: &mut Vec<Child>,
+) -> Result<(), NoMemory>
+    ensures { is_line (kept memo.now) ≡ true → (known : ℕ → Option ℕ) → known (address line (option_copied key.entry)) ≡ number →
+        OnOk result (map child_of children.new.items ≡ map child_of children.old.items
+        ++ where_listed listed (children_in known (text_at (address line (option_copied key.entry)) (kept memo.now)))) }
+{
+    if !listed {
+        return Ok(());
+    }
+    let Some(number) = number else {
+        let mut shown = Vec::new(alloc);
+        put_text(alloc, line, key, memo, &mut shown)?;
+        put_new(shown, children)?;
+        return Ok(());
+    };
+    children.push(Child::Kept(number))?;
+    Ok(())
+}
+
 /// Appends a text that stays as a child, where children are listed.
 ///
 /// # Errors
@@ -46,13 +77,8 @@ pub fn put_staying_text(
     if !listed {
         return Ok(());
     }
-    let Some(number) = page.number_of(line, key)? else {
-        let mut shown = Vec::new(alloc);
-        put_text(alloc, line, key, memo, &mut shown)?;
-        put_new(shown, children)?;
-        return Ok(());
-    };
-    children.push(Child::Kept(number))?;
+    let number = page.number_of(line, key)?;
+    put_text_child(alloc, listed, number, line, key, memo, children)?;
     Ok(())
 }
 

@@ -15,9 +15,10 @@ ghost use Rattle.tpl_drawn.specs.Walks.{as_listed, further, of_made, of_text, of
 
 use crate::comparing::children::put_children;
 use crate::comparing::kept::{put_if_listed, put_staying_text};
+use crate::comparing::texts::{put_text_made, put_text_said};
 use crate::marks::{PageNodes, mark_all};
-use crate::nodes::{inside_of, shows};
-use crate::shown::{put_shown, put_text};
+use crate::nodes::{fits, inside_of, later_of, shows};
+use crate::shown::put_shown;
 use sig_base::{NoMemory, Text};
 use std::alloc::Global;
 use tpl_blocks::Block;
@@ -60,13 +61,40 @@ fn put_marks(alloc: Global, marks: Vec<Mark>, out: &mut Compared) -> Result<(), 
     ensures touched { OnOk result (map mark_of out.new.touched.items ≡ map mark_of out.old.touched.items ++ map touched_part (map mark_of marks.items)) }
     ensures restated { OnOk result (map mark_of out.new.restated.items ≡ map mark_of out.old.restated.items ++ map restated_part (map mark_of marks.items)) }
 {
+    out.touched.reserve(marks.len())?;
+    out.restated.reserve(marks.len())?;
     for mark in marks {
         put_mark(alloc, mark, out)?;
     }
     Ok(())
 }
 
-/// Goes over lines that were made anew.
+// Goes over lines that were made anew, by the nodes that they show.
+fn put_nodes_made(
+    alloc: Global,
+    listed: bool,
+    key: Option<&Text>,
+    lines: &Block,
+    memo: &PageMemo,
+    page: &PageNodes,
+    children: &mut Vec<Child>,
+    out: &mut Compared,
+) -> Result<(), NoMemory>
+    ensures { (known : ℕ → Option ℕ) → Knows (number_on page.now) known →
+        OnOk result (walk_of children.new.items out.new ≡ further (walk_of children.old.items out.old)
+        (as_listed listed (of_made known (nodes (option_copied key.entry) (block lines.now) (kept memo.now))))) }
+{
+    let mut shown = Vec::new(alloc);
+    put_shown(alloc, key, lines, memo, &mut shown)?;
+    let mut marks = Vec::with_capacity(alloc, shown.len())?;
+    let mut near = 0;
+    let more = mark_all(alloc, shown, page, &mut near, &mut marks)?;
+    put_children(listed, more, children)?;
+    put_marks(alloc, marks, out)?;
+    Ok(())
+}
+
+/// Goes over lines that were made anew; texts without the nodes that they show, up to the first line that is none.
 ///
 /// # Errors
 ///
@@ -85,13 +113,16 @@ pub fn put_made(
         OnOk result (walk_of children.new.items out.new ≡ further (walk_of children.old.items out.old)
         (as_listed listed (of_made known (nodes (option_copied key.entry) (block lines.now) (kept memo.now))))) }
 {
-    let mut shown = Vec::new(alloc);
-    put_shown(alloc, key, lines, memo, &mut shown)?;
-    let mut marks = Vec::new(alloc);
-    let mut near = 0;
-    let more = mark_all(alloc, shown, page, &mut near, &mut marks)?;
-    put_children(listed, more, children)?;
-    put_marks(alloc, marks, out)?;
+    let Block::Text(line, _, rest) = lines else {
+        put_nodes_made(alloc, listed, key, lines, memo, page, children, out)?;
+        return Ok(());
+    };
+    if !fits(lines, memo) {
+        return Ok(());
+    }
+    put_text_made(alloc, listed, *line, key, memo, page, children, out)?;
+    let later = later_of(memo);
+    put_made(alloc, listed, key, rest, later, page, children, out)?;
     Ok(())
 }
 
@@ -183,10 +214,7 @@ pub fn put_text_again(
         put_staying_text(alloc, listed, line, key, memo, page, children)?;
         return Ok(());
     }
-    let mut shown = Vec::new(alloc);
-    put_text(alloc, line, key, memo, &mut shown)?;
-    let mut near = 0;
-    let more = mark_all(alloc, shown, page, &mut near, &mut out.restated)?;
-    put_children(listed, more, children)?;
+    let restated = &mut out.restated;
+    put_text_said(alloc, listed, line, key, memo, page, children, restated)?;
     Ok(())
 }
