@@ -47,7 +47,7 @@ fn run_entry(alloc: Global, names: &[Name], note: &RunNote) -> Result<Entry, NoM
     ensures { IfOk result (λ e. e ≡ note_entry names.now (note_of note.now)) }
 {
     let name = name_at(alloc, names, note.id.number())?;
-    let reads = names_of_signals(alloc, names, &note.reads)?;
+    let reads = names_of_signals(alloc, names, note.reads.as_slice())?;
     let outcome = note.outcome.copy()?;
     Ok(Entry::Run(name, reads, outcome))
 }

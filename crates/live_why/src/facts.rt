@@ -5,7 +5,6 @@ ghost use Rattle.live_why.specs.Views.{note_of};
 use effect_model::How;
 use sig_base::{NoMemory, NodeId};
 use sig_computed::RunNote;
-use std::alloc::Global;
 
 /// What a journal notes.
 #[derive(Drop)]
@@ -21,10 +20,10 @@ pub enum Fact {
 /// # Errors
 ///
 /// `NoMemory` where memory ran out.
-pub(crate) fn copied(alloc: Global, note: &RunNote) -> Result<RunNote, NoMemory>
+pub(crate) fn copied(note: &RunNote) -> Result<RunNote, NoMemory>
     ensures { IfOk result (λ n. note_of n ≡ note_of note.now) }
 {
-    let reads = Vec::from_slice(alloc, note.reads.as_slice())?;
+    let reads = note.reads.copy()?;
     let outcome = note.outcome.copy()?;
     Ok(RunNote {
         id: note.id,

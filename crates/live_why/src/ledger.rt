@@ -195,7 +195,7 @@ impl Ledger {
         if self.facts.len() >= MOST_FACTS {
             return Err(JournalFault::Full);
         }
-        let copy = copied(*self.facts.allocator(), run)?;
+        let copy = copied(run)?;
         self.note(copy)?;
         Ok(())
     }

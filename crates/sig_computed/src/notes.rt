@@ -1,11 +1,12 @@
 // What settling tells of its runs.
 
 use sig_base::{NodeId, Outcome};
+use sig_nodes::IdList;
 
 /// A computed that ran: what it read in order of first reading, and what it came to.
 pub struct RunNote {
     pub id: NodeId,
-    pub reads: Vec<NodeId>,
+    pub reads: IdList,
     pub outcome: Outcome,
 }
 

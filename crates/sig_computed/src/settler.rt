@@ -22,7 +22,7 @@ use crate::turns::{is_clean, outcome_of, turn_of};
 use crate::visited::Visited;
 use sig_base::{NoMemory, NodeId, Outcome};
 use sig_host::{Lent, Shelf};
-use sig_nodes::{Graph, Standing};
+use sig_nodes::{Graph, IdList, Standing};
 use std::alloc::Global;
 
 // Begins the evaluation of a computed: what is stale runs, and all else looks first.
@@ -40,39 +40,33 @@ fn begin(graph: &mut Graph, frame: &mut Open)
     frame.doing = Doing::Looking(0);
 }
 
-// What was read, in a list of its own.
-fn names(alloc: Global, learnt: &Learnt) -> Result<Vec<NodeId>, NoMemory>
-    ensures { IfOk result (λ v. v.items ≡ names_of learnt.now.reads) }
+// What was read, and behind it the source that ended the run.
+fn names_until(alloc: Global, learnt: &Learnt, last: NodeId) -> Result<Vec<NodeId>, NoMemory>
+    ensures { (outcome : Outcome) → IfOk result (λ v. v.items ≡ names_of (reads_until learnt.now.reads last outcome)) }
 {
     let reads = learnt.reads();
     let mut all = Vec::with_capacity(alloc, reads.len())?;
     all.extend_from_slice(reads)?;
-    Ok(all)
-}
-
-// The same, and behind it the source that ended the run.
-fn names_until(alloc: Global, learnt: &Learnt, last: NodeId) -> Result<Vec<NodeId>, NoMemory>
-    ensures { (outcome : Outcome) → IfOk result (λ v. v.items ≡ names_of (reads_until learnt.now.reads last outcome)) }
-{
-    let mut all = names(alloc, learnt)?;
     all.push(last)?;
     Ok(all)
 }
 
-// Keeps a run in the graph, by the names of what it read. Its outcome is taken from where it stands.
+// Keeps a run in the graph, by the names of what it read, and gives the list of these that is kept. Its outcome is taken from where it
+// stands.
 fn keep_in(
     graph: &mut Graph,
     node: NodeId,
     names: &[NodeId],
     outcome: &mut Outcome,
-) -> Result<(), NoMemory>
+) -> Result<IdList, NoMemory>
     requires computing { is_computing graph.old.state node ≡ true }
     requires given { All (λ n. is_given graph.old n ≡ true) names.now }
     requires worn { CanWear graph.old.state }
-    ensures { OnOk result ((reads : List Seen) → names.now ≡ names_of reads → IsKept graph.old graph.new node (record { reads = reads; outcome = outcome.old })) }
+    ensures list { IfOk result (λ l. l.items ≡ names.now) }
+    ensures kept { OnOk result ((reads : List Seen) → names.now ≡ names_of reads → IsKept graph.old graph.new node (record { reads = reads; outcome = outcome.old })) }
 {
-    graph.keep_reads(node, outcome, names)?;
-    Ok(())
+    let list = graph.keep_reads(node, outcome, names)?;
+    Ok(list)
 }
 
 // Keeps a run by the names of what it read, and notes it: its outcome is copied for the note alone.
@@ -80,17 +74,17 @@ fn keep(
     graph: &mut Graph,
     notes: &mut Vec<RunNote>,
     node: NodeId,
-    reads: Vec<NodeId>,
+    names: &[NodeId],
     outcome: &mut Outcome,
 ) -> Result<(), NoMemory>
     requires computing { is_computing graph.old.state node ≡ true }
-    requires given { All (λ n. is_given graph.old n ≡ true) reads.items }
+    requires given { All (λ n. is_given graph.old n ≡ true) names.now }
     requires worn { CanWear graph.old.state }
-    ensures after { OnOk result ((seen : List Seen) → reads.items ≡ names_of seen → IsKept graph.old graph.new node (evaluation_of seen outcome.old)) }
-    ensures notes { OnOk result (map note_of notes.new.items ≡ map note_of notes.old.items ++ (record { name = node; reads = reads.items; outcome = outcome.old }) ∷ []) }
+    ensures after { OnOk result ((seen : List Seen) → names.now ≡ names_of seen → IsKept graph.old graph.new node (evaluation_of seen outcome.old)) }
+    ensures notes { OnOk result (map note_of notes.new.items ≡ map note_of notes.old.items ++ (record { name = node; reads = names.now; outcome = outcome.old }) ∷ []) }
 {
     let noted = outcome.copy()?;
-    keep_in(graph, node, &reads, outcome)?;
+    let reads = keep_in(graph, node, names, outcome)?;
     notes.push(RunNote {
         id: node,
         reads,
@@ -100,12 +94,7 @@ fn keep(
 }
 
 // Keeps the run of a frame that has come to its end.
-fn keep_ended(
-    alloc: Global,
-    graph: &mut Graph,
-    notes: &mut Vec<RunNote>,
-    frame: &mut Open,
-) -> Result<(), NoMemory>
+fn keep_ended(graph: &mut Graph, notes: &mut Vec<RunNote>, frame: &mut Open) -> Result<(), NoMemory>
     requires computing { is_computing graph.old.state frame.old.id ≡ true }
     requires given { AreReadsGiven graph.old frame.old.learnt.reads }
     requires worn { CanWear graph.old.state }
@@ -113,8 +102,13 @@ fn keep_ended(
     ensures notes { OnOk result (map note_of notes.new.items ≡ map note_of notes.old.items ++ evaluation_note frame.old.id (evaluation_of frame.old.learnt.reads frame.old.outcome) ∷ []) }
     ensures id { OnOk result (frame.new.id ≡ frame.old.id) }
 {
-    let names = names(alloc, &frame.learnt)?;
-    keep(graph, notes, frame.id, names, &mut frame.outcome)?;
+    keep(
+        graph,
+        notes,
+        frame.id,
+        frame.learnt.reads(),
+        &mut frame.outcome,
+    )?;
     Ok(())
 }
 
@@ -133,7 +127,7 @@ fn keep_fallen(
     ensures id { OnOk result (frame.new.id ≡ frame.old.id) }
 {
     let names = names_until(alloc, &frame.learnt, frame.needed)?;
-    keep(graph, notes, frame.id, names, &mut frame.outcome)?;
+    keep(graph, notes, frame.id, &names, &mut frame.outcome)?;
     Ok(())
 }
 
@@ -169,7 +163,7 @@ fn apply(
             Ok(go_out(stack, frame))
         }
         Turn::Ends => {
-            keep_ended(alloc, graph, notes, frame)?;
+            keep_ended(graph, notes, frame)?;
             visited.add(frame.id)?;
             Ok(go_out(stack, frame))
         }

@@ -1,3 +1,4 @@
+pub mod Listed
 pub mod States
 pub mod StateMarks
 pub mod Answers

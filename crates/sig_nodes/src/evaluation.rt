@@ -7,9 +7,10 @@ ghost use Rattle.sig_nodes.specs.Answers.{has_moved, slots_here, IsAnswerHere, I
 ghost use Rattle.sig_nodes.specs.States.{counted, is_computing, is_given, progress_at, with_kept_run, with_look, with_progress, Becomes, CanWear, GoesOn};
 
 use crate::answers::Asked;
-use crate::bodies::{compared_at, numbers_now};
+use crate::bodies::{compared_at, numbers_now, shared_sources_at};
 use crate::end_marks::{end_mark, run_unmarks, stop_unmarks};
 use crate::graph::Graph;
+use crate::id_lists::IdList;
 use crate::links::{copied, has_read, relink};
 use crate::node::Memo;
 use crate::store::{ask_at, begin_at, end_at, keep_memo_at, renew_memo_at};
@@ -106,6 +107,27 @@ impl Graph {
         }
     }
 
+    // Ends an evaluation with a run, by the list of what it read.
+    fn keep_list(&mut self, id: NodeId, outcome: Outcome, reads: IdList) -> Result<(), NoMemory>
+        requires computing { is_computing self.old.state id ≡ true }
+        requires given { All (λ n. is_given self.old n ≡ true) reads.items }
+        requires worn { CanWear self.old.state }
+        ensures after { OnOk result (Becomes self.old self.new (with_kept_run self.old.state id outcome reads.items)) }
+        ensures seats { OnOk result (self.new.seats ≡ self.old.seats) }
+    {
+        let _count = self.nodes.made();
+        let ids = reads.as_slice();
+        let mut numbers = Vec::new(self.alloc);
+        numbers_now(&mut numbers, &self.nodes, ids)?;
+        relink(&self.nodes, &mut self.marks, id, ids)?;
+        let unmarks = run_unmarks(&self.nodes, &self.marks, &outcome, ids);
+        end_mark(&mut self.marks, id, unmarks);
+        self.worn += 1;
+        let memo = Memo::new(outcome, reads, numbers, self.generation);
+        keep_memo_at(&mut self.nodes, id, memo);
+        Ok(())
+    }
+
     /// Ends an evaluation with a run: the computed keeps its outcome, and what it read with the present numbers. Its own number
     /// rises where it kept no such outcome. Without memory the graph may only be dropped.
     pub fn keep_run(
@@ -120,15 +142,8 @@ impl Graph {
         ensures after { OnOk result (Becomes self.old self.new (with_kept_run self.old.state id outcome reads.items)) }
         ensures seats { OnOk result (self.new.seats ≡ self.old.seats) }
     {
-        let _count = self.nodes.made();
-        let mut numbers = Vec::new(self.alloc);
-        numbers_now(&mut numbers, &self.nodes, &reads)?;
-        relink(&self.nodes, &mut self.marks, id, &reads)?;
-        let unmarks = run_unmarks(&self.nodes, &self.marks, &outcome, &reads);
-        end_mark(&mut self.marks, id, unmarks);
-        self.worn += 1;
-        let memo = Memo::new(outcome, reads, numbers, self.generation);
-        keep_memo_at(&mut self.nodes, id, memo);
+        let reads = IdList::of(self.alloc, reads)?;
+        self.keep_list(id, outcome, reads)?;
         Ok(())
     }
 
@@ -164,28 +179,76 @@ impl Graph {
         has_read(&self.nodes, id, reads)
     }
 
-    /// Ends an evaluation with a run, as `keep_run` does, and takes a list of what it read only where the kept run didn't read the same. The
-    /// outcome is taken from where it stands.
+    // The sources of the run that a computed keeps, in the list that the run has.
+    fn shared_sources(&self, id: NodeId) -> Result<IdList, NoMemory>
+        requires { is_some (memo_of self.now.state.memos id) ≡ true }
+        ensures { IfOk result (λ l. l.items ≡ source_names (sources_of self.now.state.memos id)) }
+    {
+        shared_sources_at(&self.nodes, id)
+    }
+
+    // Ends an evaluation with a run that read what the kept one did, and gives the list that this one has.
+    fn keep_same(
+        &mut self,
+        id: NodeId,
+        outcome: &mut Outcome,
+        reads: &[NodeId],
+    ) -> Result<IdList, NoMemory>
+        requires kept { is_some (memo_of self.old.state.memos id) ≡ true }
+        requires same { source_names (sources_of self.old.state.memos id) ≡ reads.now }
+        requires computing { is_computing self.old.state id ≡ true }
+        requires given { All (λ n. is_given self.old n ≡ true) reads.now }
+        requires worn { CanWear self.old.state }
+        ensures list { IfOk result (λ l. l.items ≡ reads.now) }
+        ensures after { OnOk result (Becomes self.old self.new (with_kept_run self.old.state id outcome.old reads.now)) }
+        ensures seats { OnOk result (self.new.seats ≡ self.old.seats) }
+    {
+        let list = self.shared_sources(id)?;
+        self.keep_again(id, outcome, reads)?;
+        Ok(list)
+    }
+
+    // Ends an evaluation with a run, and gives what it read in a new list.
+    fn keep_anew(
+        &mut self,
+        id: NodeId,
+        outcome: &mut Outcome,
+        reads: &[NodeId],
+    ) -> Result<IdList, NoMemory>
+        requires computing { is_computing self.old.state id ≡ true }
+        requires given { All (λ n. is_given self.old n ≡ true) reads.now }
+        requires worn { CanWear self.old.state }
+        ensures list { IfOk result (λ l. l.items ≡ reads.now) }
+        ensures after { OnOk result (Becomes self.old self.new (with_kept_run self.old.state id outcome.old reads.now)) }
+        ensures seats { OnOk result (self.new.seats ≡ self.old.seats) }
+    {
+        let ids = copied(self.alloc, reads)?;
+        let list = IdList::of(self.alloc, ids)?;
+        let kept = list.copy()?;
+        let outcome = mem::replace(outcome, Outcome::Bad(Fault::Cycle));
+        self.keep_list(id, outcome, kept)?;
+        Ok(list)
+    }
+
+    /// Ends an evaluation with a run, as `keep_run` does, and gives what it read in the list that is kept: that of the kept run, where it
+    /// read the same. The outcome is taken from where it stands.
     pub fn keep_reads(
         &mut self,
         id: NodeId,
         outcome: &mut Outcome,
         reads: &[NodeId],
-    ) -> Result<(), NoMemory>
+    ) -> Result<IdList, NoMemory>
         requires computing { is_computing self.old.state id ≡ true }
         requires given { All (λ n. is_given self.old n ≡ true) reads.now }
         requires worn { CanWear self.old.state }
+        ensures list { IfOk result (λ l. l.items ≡ reads.now) }
         ensures after { OnOk result (Becomes self.old self.new (with_kept_run self.old.state id outcome.old reads.now)) }
         ensures seats { OnOk result (self.new.seats ≡ self.old.seats) }
     {
         if self.has_read(id, reads) {
-            self.keep_again(id, outcome, reads)?;
-            return Ok(());
+            return self.keep_same(id, outcome, reads);
         }
-        let reads = copied(self.alloc, reads)?;
-        let outcome = mem::replace(outcome, Outcome::Bad(Fault::Cycle));
-        self.keep_run(id, outcome, reads)?;
-        Ok(())
+        self.keep_anew(id, outcome, reads)
     }
 
     /// Ends an evaluation without a run.

@@ -20,6 +20,7 @@ ghost use Rattle.sig_formula.specs.declared.formula.RowRef.{RowRef};
 ghost use Rattle.sig_formula.specs.Trees.{tree};
 
 use crate::answers::{Asked, Recipe};
+use crate::id_lists::IdList;
 use sig_base::{Fault, Known, NoMemory, NodeId, Outcome, Step, Value};
 use sig_formula::{Formula, Paused};
 use signal_model::judged;
@@ -49,7 +50,7 @@ impl Model for Source {
 #[derive(Drop)]
 pub(crate) struct Memo {
     outcome: Outcome,
-    sources: Vec<NodeId>,
+    sources: IdList,
     numbers: Vec<Option<u128>>,
     generation: u128,
     rewired: bool,
@@ -76,7 +77,7 @@ impl Memo {
     /// What a run leaves in this generation, by its sources and their numbers.
     pub(crate) fn new(
         outcome: Outcome,
-        sources: Vec<NodeId>,
+        sources: IdList,
         numbers: Vec<Option<u128>>,
         generation: u128,
     ) -> Memo
@@ -101,15 +102,24 @@ impl Memo {
     fn sources(&self) -> &[NodeId]
         ensures { result.now ≡ source_names self.now.sources }
     {
-        &self.sources
+        self.sources.as_slice()
+    }
+
+    // The sources in the list that the memo has.
+    fn shared_sources(&self) -> Result<IdList, NoMemory>
+        ensures { IfOk result (λ l. l.items ≡ source_names self.now.sources) }
+    {
+        let list = self.sources.copy()?;
+        Ok(list)
     }
 
     fn source(&self, place: usize) -> Option<Source>
         ensures { result ≡ slice_get self.now.sources place }
     {
-        if place < self.sources.len() {
+        let sources = self.sources.as_slice();
+        if place < sources.len() {
             Some(Source {
-                name: self.sources[place],
+                name: sources[place],
                 number: self.numbers[place],
             })
         } else {
@@ -241,6 +251,17 @@ impl Computation {
         match &self.memo {
             Some(memo) => memo.sources(),
             None => &[],
+        }
+    }
+
+    /// The sources of the run that it keeps, in the list that the run has.
+    pub(crate) fn shared_sources(&self) -> Result<IdList, NoMemory>
+        requires { is_some self.now.memo ≡ true }
+        ensures { IfOk result (λ l. l.items ≡ source_names (sources_in self.now.memo)) }
+    {
+        match &self.memo {
+            Some(memo) => memo.shared_sources(),
+            None => unreachable!(),
         }
     }
 

@@ -2,7 +2,7 @@
 use effect_model::How;
 use live_why::Journal;
 use sig_base::{NodeId, Outcome, Value};
-use sig_computed::RunNote;
+use sig_computed::{IdList, RunNote};
 use std::alloc::Global;
 use std::test::Fail;
 use why_check::check;
@@ -16,7 +16,7 @@ fn run(
     read: NodeId,
     value: i64,
 ) -> Result<(), Fail> {
-    let reads = Vec::from_slice(alloc, &[read])?;
+    let reads = IdList::of(alloc, Vec::from_slice(alloc, &[read])?)?;
     journal.note_run(&RunNote {
         id,
         reads,
@@ -72,7 +72,7 @@ fn the_chain_leads_to_a_rewiring(rt: HostRuntime) -> Result<(), Fail> {
     journal.note_change(b, How::Rewire)?;
     journal.note_run(&RunNote {
         id: b,
-        reads: Vec::new(alloc),
+        reads: IdList::of(alloc, Vec::new(alloc))?,
         outcome: Outcome::Good(Value::Int(3)),
     })?;
     run(&mut journal, alloc, d, b, 6)?;
