@@ -45,10 +45,11 @@ pub fn make_child(
         return Err(EffectFault::Gone);
     };
     let alloc = *events.allocator();
+    let last = world.tables.effects.len();
     let child = world
         .tables
         .make_child(alloc, id, row, site, place as usize)?;
-    world.heard.forget();
+    world.heard.add(last);
     events.push(Event::Made {
         child,
         parent: id,

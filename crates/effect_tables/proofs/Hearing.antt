@@ -1,5 +1,5 @@
 -- What is known of effects that need no look stays right.
-use Rattle.std.proofs.Common.{◌≡◌, inl, inr, ℕ, ◌==◌, Bool, true, false, List, [], ◌∷◌, zero, suc, cond, Option, Some, None, refl, sym, ap, subst, ◌∙◌}
+use Rattle.std.proofs.Common.{◌≡◌, ◌⊎◌, inl, inr, ℕ, ◌==◌, Bool, true, false, List, [], ◌∷◌, ◌++◌, length, zero, suc, cond, Option, Some, None, refl, sym, ap, subst, ◌∙◌}
 use Rattle.std.proofs.lemmas.Bool.{eqb-true, true≢false}
 use Rattle.std.specs.List.{AllByRecursion}
 use Rattle.std.specs.Prelude.{slice_get}
@@ -11,7 +11,7 @@ use Rattle.signal_model.specs.Values.{Seen}
 use Rattle.effect_model.specs.Worlds.{Effect}
 use Rattle.effect_tables.specs.declared.heard.Heard.{Heard}
 use Rattle.effect_tables.proofs.Marks.{all_so}
-use Rattle.effect_tables.specs.Heard.{is_marked, reads_at, still_in, AreHeard, IsHeard, IsHeardOf, IsMissed, IsQuiet, IsWoken}
+use Rattle.effect_tables.specs.Heard.{is_marked, reads_at, still_in, AreHeard, IsAdded, IsHeard, IsHeardOf, IsMissed, IsQuiet, IsWoken}
 use Rattle.effect_tables.specs.Runs.{with_reads}
 
 -- where nothing is known
@@ -93,6 +93,21 @@ kept_heard k ss w h j xs ys missed is a = record {
       let before : slice_get xs q ≡ Some x = kept_at k q ss xs x (λ y there. missed.off q y on there) (sym (ap (λ zs. slice_get zs q) is) ∙ at) in
       quiet_so w w h j q q x.kept (λ s so. record { still = so.still; wakes = ap (λ rs. reads_at rs s.name q) missed.readers ∙ so.wakes })
       (a.each q x (missed.marked q on) before);
+}
+
+-- An effect is made behind the others.
+found_before : (p : ℕ) (xs : List Effect) (x y : Effect) → slice_get (xs ++ x ∷ []) p ≡ Some y → (slice_get xs p ≡ Some y) ⊎ (p ≡ length xs)
+found_before zero [] x y at = inr refl
+found_before (suc p) [] x y at = absurd cc
+found_before zero (z ∷ xs) x y at = inl at
+found_before (suc p) (z ∷ xs) x y at = elim (found_before p xs x y at) [ inl here ↦ inl here | inr e ↦ inr (ap suc e) ]
+
+pub added_heard : (p : ℕ) (w : Signals) (h j : Heard) (xs ys : List Effect) (x : Effect) → IsAdded p h j → p ≡ length xs → ys ≡ xs ++ x ∷ [] → AreHeard w h xs → AreHeard w j ys
+added_heard p w h j xs ys x added last is a = record {
+  each = λ q y on at. elim (found_before q xs x y (sym (ap (λ zs. slice_get zs q) is) ∙ at)) [
+    | inl here ↦ quiet_so w w h j q q y.kept (λ s so. record { still = so.still; wakes = ap (λ rs. reads_at rs s.name q) added.readers ∙ so.wakes }) (a.each q y (added.marked q on) here)
+    | inr e ↦ absurd (true≢false (sym on ∙ ap (λ k. is_marked k j.quiet.items) (e ∙ sym last) ∙ added.off))
+  ];
 }
 
 -- nothing of it was changed

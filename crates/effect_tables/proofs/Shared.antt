@@ -26,4 +26,4 @@ pub use Rattle.effect_tables.proofs.Visits.{glance_rests, rerun_rests, visit_res
 -- flushes
 pub use Rattle.effect_tables.proofs.TurnByTurn.{at_start, goes_on, at_end}
 -- what is known of effects that need no look
-pub use Rattle.effect_tables.proofs.Hearing.{heard_heard, kept_heard, none_heard, same_heard, set_heard}
+pub use Rattle.effect_tables.proofs.Hearing.{added_heard, heard_heard, kept_heard, none_heard, same_heard, set_heard}

@@ -46,6 +46,12 @@ pub record IsHeard (p : ℕ) (ss : List Seen) (old new : Heard) : Type 0 where
   pub more : (n q : ℕ) → reads_at old.readers n q ≡ true → reads_at new.readers n q ≡ true
   pub each : AllByRecursion (λ (s : Seen). reads_at new.readers s.name p ≡ true) ss
 
+-- At a place none is marked, as where an effect is made there. Of the others none more is, and cells wake as before.
+pub record IsAdded (p : ℕ) (old new : Heard) : Type 0 where
+  pub marked : (q : ℕ) → is_marked q new.quiet.items ≡ true → is_marked q old.quiet.items ≡ true
+  pub off : is_marked p new.quiet.items ≡ false
+  pub readers : new.readers ≡ old.readers
+
 -- Of the effect of a number none is marked. Of the others none more is, and cells wake as before.
 pub record IsMissed (e : ℕ) (xs : List Effect) (old new : Heard) : Type 0 where
   pub marked : (p : ℕ) → is_marked p new.quiet.items ≡ true → is_marked p old.quiet.items ≡ true

@@ -3,7 +3,7 @@ ghost use Rattle.std.specs.Prelude.{◌≡◌, ◌⊎◌, ◌==◌, ◌+◌, ◌
 ghost use Rattle.std.specs.List.{AllByRecursion};
 ghost use Rattle.indexmap.specs.IndexMap.{get};
 ghost use Rattle.effect_tables.specs.Consistency.{AreRising};
-ghost use Rattle.effect_tables.specs.Heard.{has_place, is_marked, reads_at, AreMarked, IsHeard, IsMissed, IsWoken};
+ghost use Rattle.effect_tables.specs.Heard.{has_place, is_marked, reads_at, AreMarked, IsAdded, IsHeard, IsMissed, IsWoken};
 ghost use Rattle.effect_tables.specs.Placed.{effect_of};
 
 use crate::effect::Effect;
@@ -213,7 +213,7 @@ impl Heard {
         }
     }
 
-    /// Nothing is known any more, as after an end or a making. It takes no memory.
+    /// Nothing is known any more, as after an end. It takes no memory.
     pub fn forget(&mut self)
         ensures { self.new.quiet.items ≡ [] }
     {
@@ -248,6 +248,13 @@ impl Heard {
         let Some(place) = effect_place(effects, id) else {
             return;
         };
+        rouse(&mut self.quiet, place);
+    }
+
+    /// An effect is made at this place, behind all others: it needs a look. It takes no memory.
+    pub fn add(&mut self, place: usize)
+        ensures { IsAdded place self.old self.new }
+    {
         rouse(&mut self.quiet, place);
     }
 

@@ -152,8 +152,9 @@ impl World {
         ensures signals { stores_of self.new ≡ stores_of self.old }
         ensures refuses { RefusesThing result (is_open (living 0 self.old.tables.owners.items) inside) (Unit {0}) ⊥ (self.new ≡ self.old) }
     {
+        let place = self.tables.effects.len();
         let id = self.tables.make_effect(alloc, script, inside)?;
-        self.heard.forget();
+        self.heard.add(place);
         Ok(id)
     }
 
