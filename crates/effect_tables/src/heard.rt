@@ -45,7 +45,7 @@ fn are_two(quiet: &[bool], place: usize) -> bool
 {
     let one = quiet[place];
     let other = quiet[place + 1];
-    one && other
+    one & other
 }
 
 // Whether four are.
@@ -55,17 +55,17 @@ fn are_four(quiet: &[bool], place: usize) -> bool
 {
     let front = are_two(quiet, place);
     let rest = are_two(quiet, place + 2);
-    front && rest
+    front & rest
 }
 
-// Whether eight are: they are read without a test between them.
+// Whether eight are. No test stands between them.
 fn are_eight(quiet: &[bool], place: usize) -> bool
     requires { place + 8 ≤ length quiet.now }
     ensures { IsTrue result → AreMarked place 8 quiet.now }
 {
     let front = are_four(quiet, place);
     let rest = are_four(quiet, place + 4);
-    front && rest
+    front & rest
 }
 
 // A place behind this one and marks that are set, eight at a time.
