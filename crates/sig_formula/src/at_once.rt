@@ -33,6 +33,7 @@ enum Operand {
 }
 
 // An operand that is a literal or a slot.
+#[inline(always)]
 fn leaf_of(tracking: bool, f: &Formula, tracked: &[Known], untracked: &[Known]) -> Operand
     ensures { (row : Option RowRef) →
         operand_told result (formula_step tracking (tree f.now) row tracked.now untracked.now) ≡ formula_step tracking (tree f.now) row tracked.now untracked.now }
@@ -71,6 +72,7 @@ fn number_of(op: BinOp, left: i64, right: i64) -> Operand
 }
 
 // One operation between two of these.
+#[inline(never)]
 fn part_of(
     tracking: bool,
     op: BinOp,
@@ -97,6 +99,7 @@ fn part_of(
 }
 
 // An operand that is a literal or a slot, or one operation between two of them.
+#[inline(always)]
 fn operand_of(tracking: bool, f: &Formula, tracked: &[Known], untracked: &[Known]) -> Operand
     ensures { (row : Option RowRef) →
         operand_told result (formula_step tracking (tree f.now) row tracked.now untracked.now) ≡ formula_step tracking (tree f.now) row tracked.now untracked.now }
@@ -108,6 +111,7 @@ fn operand_of(tracking: bool, f: &Formula, tracked: &[Known], untracked: &[Known
 }
 
 // What an operator makes of two whole numbers; nothing is told where it makes a text of them.
+#[inline(never)]
 fn any_at_once(op: BinOp, left: i64, right: i64, outcome: &mut Outcome) -> AtOnce
     ensures { told result outcome.new (End (operated op (value.Int left) (value.Int right))) ≡ End (operated op (value.Int left) (value.Int right)) }
 {
@@ -121,6 +125,7 @@ fn any_at_once(op: BinOp, left: i64, right: i64, outcome: &mut Outcome) -> AtOnc
 }
 
 // The same, with the commonest operators on their own.
+#[inline(always)]
 fn operate_at_once(op: BinOp, left: i64, right: i64, outcome: &mut Outcome) -> AtOnce
     ensures { told result outcome.new (End (operated op (value.Int left) (value.Int right))) ≡ End (operated op (value.Int left) (value.Int right)) }
 {
@@ -142,6 +147,7 @@ fn operate_at_once(op: BinOp, left: i64, right: i64, outcome: &mut Outcome) -> A
 }
 
 // An operator whose left operand doesn't decide.
+#[inline(always)]
 fn operation_at_once(
     tracking: bool,
     op: BinOp,
@@ -174,6 +180,7 @@ fn operation_at_once(
 /// # Errors
 ///
 /// `NoMemory` alone.
+#[inline]
 pub(crate) fn answer_at_once(
     tracking: bool,
     f: &Formula,

@@ -46,6 +46,7 @@ pub(crate) fn served<'a>(
 
 // The step of a formula by the list of its instructions.
 #[tactic(auto, using(crate::proofs::Progress::begun_is_reached))]
+#[inline(never)]
 fn step_by_list(
     alloc: Global,
     tracking: bool,

@@ -142,6 +142,7 @@ impl Paused {
 
     // The same as `advance`, by the list of its instructions.
     #[tactic(auto, using(crate::proofs::Progress::anew_is_paused, crate::proofs::Progress::end_told))]
+    #[inline(never)]
     fn advance_by_list(
         &mut self,
         alloc: Global,
