@@ -8,4 +8,5 @@ mod Creations
 mod Mounts
 mod Handled
 mod Watchers
+mod LeftOut
 pub mod Shared

@@ -1,10 +1,13 @@
 -- What a command that may ask host formulas asks for, and what it leaves.
-use Rattle.std.specs.Prelude.{◌≤◌, ◌<◌, ◌+◌, ℕ, List}
+use Rattle.std.specs.Prelude.{◌≡◌, ◌≤◌, ◌<◌, ◌+◌, ◌++◌, ℕ, Bool, true, List, []}
+use Rattle.std.specs.List.{AllByRecursion}
 use Rattle.signal_model.specs.Recipes.{Hosts}
 use Rattle.sig_host.specs.Hosts.{HostPlace, most_asked}
 use Rattle.effect_world.specs.Costs.{weight}
 use Rattle.effect_world.specs.Stores.{Agrees, IsSound}
 use Rattle.live_entries.specs.declared.entry.Entry.{Entry}
+use Rattle.live_entries.specs.Printed.{is_traced}
+use Rattle.live_model.specs.Machine as plain
 use Rattle.live_model.specs.Machine.{Told}
 use Rattle.live_core.specs.Consistency.{IsReady, Leaves, Steps, WorldAgrees}
 use Rattle.live_core.specs.declared.machine.Machine.{Machine}
@@ -36,3 +39,18 @@ pub record Did (asked later : List HostPlace) (rules : ℕ) (old new : Machine) 
   pub answers : (hosts : Hosts) → before hosts → after hosts
   pub counted : counts
   pub most : most_asked later ≤ most_asked asked + asks
+
+-- So it was, and of what is told some entries in front aren't given, which are printed only in a trace; none where one is asked for.
+pub record DidFor (traced : Bool) (asked later : List HostPlace) (rules : ℕ) (old new : Machine) (before after : Hosts → Type 0)
+    (counts : Type 0) (asks : ℕ) (entries : List Entry) (next : Hosts → Told) : Type 0 where
+  pub front : List Entry
+  pub hidden : AllByRecursion (λ e. is_traced e ≡ true) front
+  pub whole : traced ≡ true → front ≡ []
+  pub did : Did asked later rules old new before after counts asks (front ++ entries) next
+
+-- A plain machine was reached, and what is told is these entries behind some that are printed only in a trace, none where one is asked for.
+pub record TellsBehind (traced : Bool) (m : plain.Machine) (entries : List Entry) (next : Told) : Type 0 where
+  pub front : List Entry
+  pub hidden : AllByRecursion (λ e. is_traced e ≡ true) front
+  pub whole : traced ≡ true → front ≡ []
+  pub is : plain.reached m (front ++ entries) ≡ next

@@ -53,8 +53,8 @@ impl Machine {
         })
     }
 
-    // Does what a verb says to a name.
-    fn do_verb(
+    /// Does what a verb says to a name.
+    pub(crate) fn do_verb(
         &mut self,
         shelf: &mut Shelf,
         rules: &[EqualsRule],

@@ -13,6 +13,7 @@ mod lists;
 mod machine;
 mod pages;
 mod records;
+mod untraced;
 
 pub use lists::edit_refusal;
 pub use machine::Machine;

@@ -1,5 +1,5 @@
 -- Why a command is refused, and that it is done where it isn't.
-use Rattle.std.proofs.Common.{◌≡◌, ℕ, Bool, cond, List, [], ◌∷◌, Option, Some, None, refl, sym, ap, subst, ◌∙◌}
+use Rattle.std.proofs.Common.{◌≡◌, ℕ, arith, Bool, true, cond, List, [], ◌∷◌, ◌++◌, Result, Ok, Err, IfOk, Option, Some, None, refl, sym, ap, subst, ◌∙◌}
 use Rattle.std.specs.Option.{option_or, option_map_or}
 use Rattle.std.specs.Str.{bytes_eq}
 use Rattle.signal_model.specs.Recipes.{Hosts}
@@ -12,6 +12,7 @@ use Rattle.live_cmd.specs.declared.command.Command.{Command}
 use Rattle.live_cmd.specs.declared.command.Command.TheVariants as command
 use Rattle.live_cmd.specs.declared.command.Item.TheVariants as item
 use Rattle.live_entries.specs.declared.entry.Entry.{Entry}
+use Rattle.live_entries.specs.declared.entry.Entry.TheVariants as entry
 use Rattle.live_entries.specs.declared.refusal.Refusal.{Refusal}
 use Rattle.live_entries.specs.declared.refusal.Refusal.TheVariants as refusal
 use Rattle.live_model.specs.declared.names.Kind.{Kind}
@@ -24,8 +25,8 @@ use Rattle.live_model.specs.Uses.{uses_of, uses_of_body}
 use Rattle.live_model.specs.Machine as plain
 use Rattle.live_model.specs.Machine.{batch_refusal, body_refusal, done, later_refusal, name_refusal, over_limit, place_refusal, refusal_of, refused, row_refusal, step, unwatch_refusal}
 use Rattle.live_core.specs.declared.machine.Machine.{Machine}
-use Rattle.live_core.specs.Consistency.{AreFine, Steps}
-use Rattle.live_core.specs.Doing.{Did}
+use Rattle.live_core.specs.Consistency.{AreFine, IsReady, Steps}
+use Rattle.live_core.specs.Doing.{Did, DidFor}
 use Rattle.live_core.specs.Views.{plain_of}
 use Rattle.live_core.proofs.Shared.{neither}
 
@@ -149,3 +150,43 @@ did_so asked later count old new before after counted asks entries slacks m c no
   counted = d.counted;
   most = d.most;
 }
+
+-- so it is where some of what is told may be left out
+pub did_so_for : (traced : Bool) (asked later : List HostPlace) (count : ℕ) (old new : Machine) (before after : Hosts → Type 0) (counted : Type 0) (asks : ℕ) (entries : List Entry)
+    (slacks : List ℕ) (m : plain.Machine) (c : Command) → refusal_of slacks m c ≡ None →
+    DidFor traced asked later count old new before after counted asks entries (λ hosts. done (environment hosts slacks) m c) →
+    DidFor traced asked later count old new before after counted asks entries (λ hosts. step (environment hosts slacks) m (item.Do c))
+did_so_for traced asked later count old new before after counted asks entries slacks m c none d = record {
+  front = d.front;
+  hidden = d.hidden;
+  whole = d.whole;
+  did = did_so asked later count old new before after counted asks (d.front ++ entries) slacks m c none d.did;
+}
+
+-- what is refused tells that, and all stays as it was
+pub refused_for : {A E : Type 0} (traced : Bool) (r : Result A E) (items : A → List Entry) (asked : List HostPlace) (count : ℕ) (m : Machine) (before : Hosts → Type 0)
+    (counted : Type 0) (asks : ℕ) (next : Hosts → plain.Told) (why : Refusal) → counted → IsReady m →
+    ((hosts : Hosts) → plain.reached (plain_of asked m) (entry.Error why ∷ []) ≡ next hosts) → IfOk r (λ x. items x ≡ entry.Error why ∷ []) →
+    IfOk r (λ x. DidFor traced asked asked count m m before before counted asks (items x) next)
+refused_for traced (Ok x) items asked count m before counted asks next why counts ready is told = record {
+  front = [];
+  hidden = tt;
+  whole = λ e. refl;
+  did = record {
+    steps = λ hosts a sound. record { step = ap (λ (es : List Entry). plain.reached (plain_of asked m) es) told ∙ is hosts; sound = sound };
+    leaves = λ hosts a sound. record { ready = ready; holds = λ h. h; weight = omega arith };
+    answers = λ hosts a. a;
+    counted = counts;
+    most = omega arith;
+  };
+}
+refused_for traced (Err e) items asked count m before counted asks next why counts ready is told = tt
+
+-- the step of a command that is refused
+pub refused_step : (env : Environment) (m : plain.Machine) (c : Command) (why : Refusal) → Some why ≡ refusal_of env.slacks m c →
+    plain.reached m (entry.Error why ∷ []) ≡ step env m (item.Do c)
+refused_step env m c why is = ap (λ (o : Option Refusal). option_map_or (refused m) o (done env m c)) is
+
+-- where nothing is left out, all is told
+pub told_whole : (m : plain.Machine) (front es : List Entry) (next : plain.Told) → front ≡ [] → plain.reached m (front ++ es) ≡ next → plain.reached m es ≡ next
+told_whole m front es next none is = sym (ap (λ (xs : List Entry). plain.reached m (xs ++ es)) none) ∙ is

@@ -6,7 +6,7 @@ ghost use Rattle.live_cmd.specs.declared.command.Item.TheVariants as item;
 ghost use Rattle.live_entries.specs.declared.entry.Entry.TheVariants as entry;
 ghost use Rattle.live_model.specs.Machine.{step};
 ghost use Rattle.live_core.specs.Consistency.{IsReadable, IsReadItem};
-ghost use Rattle.live_core.specs.Doing.{CanDo, Did};
+ghost use Rattle.live_core.specs.Doing.{CanDo, DidFor};
 ghost use Rattle.live_core.specs.Views.{plain_of};
 
 use crate::refusals::refusal_of;
@@ -37,16 +37,17 @@ fn refused(alloc: Global, refusal: Refusal) -> Result<Vec<Entry>, NoMemory>
     Ok(told)
 }
 
-// Does a command, or refuses it.
+// Does a command, or refuses it. What is told in front and only in a trace may be left out where none is asked for.
 fn try_command(
     machine: &mut Machine,
     shelf: &mut Shelf,
     rules: &[EqualsRule],
     command: Command,
+    traced: bool,
 ) -> Result<Vec<Entry>, NoMemory>
     requires can { CanDo (⟦<Shelf as Lent>⟧.asked shelf.old) (length rules.now) machine.old (⟦<Shelf as Lent>⟧.counted shelf.old) (2 ^ 124) }
     requires read { IsReadable command }
-    ensures did { IfOk result (λ es. Did (⟦<Shelf as Lent>⟧.asked shelf.old) (⟦<Shelf as Lent>⟧.asked shelf.new) (length rules.now) machine.old machine.new
+    ensures did { IfOk result (λ es. DidFor traced (⟦<Shelf as Lent>⟧.asked shelf.old) (⟦<Shelf as Lent>⟧.asked shelf.new) (length rules.now) machine.old machine.new
         (λ hosts. ⟦<Shelf as Lent>⟧.answers hosts shelf.old) (λ hosts. ⟦<Shelf as Lent>⟧.answers hosts shelf.new) (⟦<Shelf as Lent>⟧.counted shelf.new) (2 ^ 80)
         es.items (λ hosts. step (environment hosts (map (λ r. r.slack) rules.now)) (plain_of (⟦<Shelf as Lent>⟧.asked shelf.old) machine.old) (item.Do command))) }
 {
@@ -58,27 +59,28 @@ fn try_command(
         drop(command);
         return refused(machine.alloc, refusal);
     }
-    match machine.perform(shelf, rules, command) {
+    match machine.perform_for(shelf, rules, command, traced) {
         Ok(entries) => Ok(entries),
         Err(fault) => Err(memory_of(fault)),
     }
 }
 
-/// Does one item. A refused one changes nothing.
+/// Does one item. A refused one changes nothing. What is told in front and only in a trace may be left out where none is asked for.
 pub(crate) fn act(
     machine: &mut Machine,
     shelf: &mut Shelf,
     rules: &[EqualsRule],
     item: Item,
+    traced: bool,
 ) -> Result<Vec<Entry>, NoMemory>
     requires can { CanDo (⟦<Shelf as Lent>⟧.asked shelf.old) (length rules.now) machine.old (⟦<Shelf as Lent>⟧.counted shelf.old) (2 ^ 124) }
     requires read { IsReadItem item }
-    ensures did { IfOk result (λ es. Did (⟦<Shelf as Lent>⟧.asked shelf.old) (⟦<Shelf as Lent>⟧.asked shelf.new) (length rules.now) machine.old machine.new
+    ensures did { IfOk result (λ es. DidFor traced (⟦<Shelf as Lent>⟧.asked shelf.old) (⟦<Shelf as Lent>⟧.asked shelf.new) (length rules.now) machine.old machine.new
         (λ hosts. ⟦<Shelf as Lent>⟧.answers hosts shelf.old) (λ hosts. ⟦<Shelf as Lent>⟧.answers hosts shelf.new) (⟦<Shelf as Lent>⟧.counted shelf.new) (2 ^ 80)
         es.items (λ hosts. step (environment hosts (map (λ r. r.slack) rules.now)) (plain_of (⟦<Shelf as Lent>⟧.asked shelf.old) machine.old) item)) }
 {
     match item {
-        Item::Do(command) => try_command(machine, shelf, rules, command),
+        Item::Do(command) => try_command(machine, shelf, rules, command, traced),
         Item::Refused(refusal) => refused(machine.alloc, refusal),
     }
 }

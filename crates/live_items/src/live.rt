@@ -7,6 +7,7 @@ ghost use Rattle.sig_effect.specs.Stores.{environment};
 ghost use Rattle.effect_world.specs.Stores.{IsSound};
 ghost use Rattle.live_model.specs.Machine.{empty, step, reached, Machine};
 ghost use Rattle.live_core.specs.Consistency.{IsKept, IsReadItem, SomeHosts};
+ghost use Rattle.live_core.specs.Doing.{TellsBehind};
 ghost use Rattle.live_core.specs.Views.{plain_of};
 
 use crate::commands::act;
@@ -98,6 +99,48 @@ impl Live {
         })
     }
 
+    /// Does one item as `do_command` does, whose clauses it has. Where no trace is asked for, entries in front may be left out that are
+    /// printed only there: the runs on the way to what a `get` tells.
+    ///
+    /// # Errors
+    ///
+    /// `NoMemory` where memory ran out. After it each later call answers that too, and changes nothing.
+    pub fn do_item(&mut self, item: Item, traced: bool) -> Result<Vec<Entry>, NoMemory>
+        requires kept { ⟦<Live as Running>⟧.kept self.old }
+        requires meant { self.old.broken ≡ false → SomeHosts (λ hosts. ⟦<Shelf as Lent>⟧.answers hosts self.old.shelf × ⟦<Live as Running>⟧.sound hosts self.old) }
+        requires counted { self.old.broken ≡ false → ⟦<Shelf as Lent>⟧.counted self.old.shelf }
+        requires read { IsReadItem item }
+        requires room { self.old.done < 2 ^ 23 }
+        ensures step { (hosts : Hosts) → ⟦<Shelf as Lent>⟧.answers hosts self.old.shelf → ⟦<Live as Running>⟧.sound hosts self.old →
+            IfOk result (λ es.
+            TellsBehind traced (⟦<Live as Running>⟧.machine self.new) es.items
+            (step (environment hosts (⟦<Live as Running>⟧.slacks self.old)) (⟦<Live as Running>⟧.machine self.old) item)
+            × ⟦<Live as Running>⟧.sound hosts self.new × ⟦<Shelf as Lent>⟧.answers hosts self.new.shelf) }
+        ensures kept { ⟦<Live as Running>⟧.kept self.new }
+        ensures meant { self.new.broken ≡ false → SomeHosts (λ hosts. ⟦<Shelf as Lent>⟧.answers hosts self.new.shelf × ⟦<Live as Running>⟧.sound hosts self.new) }
+        ensures counted { self.new.broken ≡ false → ⟦<Shelf as Lent>⟧.counted self.new.shelf }
+        ensures slacks { ⟦<Live as Running>⟧.slacks self.new ≡ ⟦<Live as Running>⟧.slacks self.old }
+        ensures done { OnOk result (self.new.done ≡ self.old.done + 1) }
+        ensures whole { OnOk result (self.new.broken ≡ false) }
+        ensures broken { OnErr result (self.new.broken ≡ true) }
+        ensures stays { self.old.broken ≡ true → IsErr result × (self.new ≡ self.old) }
+    {
+        if self.broken {
+            return Err(NoMemory);
+        }
+        self.broken = true;
+        let entries = act(
+            &mut self.machine,
+            &mut self.shelf,
+            &self.rules,
+            item,
+            traced,
+        )?;
+        self.broken = false;
+        self.done += 1;
+        Ok(entries)
+    }
+
     /// Does one item and tells what came of it: one step of the plain machine, the entries of a trace included. A refused item changes
     /// nothing. Each host formula was asked as often as the machine says: once by each run of its computed, and once more after each good
     /// read. What has to be in order is asked for and given back clause by clause, so that items may follow one another; the step, the
@@ -126,13 +169,7 @@ impl Live {
         ensures broken { OnErr result (self.new.broken ≡ true) }
         ensures stays { self.old.broken ≡ true → IsErr result × (self.new ≡ self.old) }
     {
-        if self.broken {
-            return Err(NoMemory);
-        }
-        self.broken = true;
-        let entries = act(&mut self.machine, &mut self.shelf, &self.rules, item)?;
-        self.broken = false;
-        self.done += 1;
+        let entries = self.do_item(item, true)?;
         Ok(entries)
     }
 }

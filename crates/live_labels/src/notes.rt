@@ -53,7 +53,11 @@ pub(crate) fn note_all(journal: &mut Option<Recorder>, events: &[Event]) -> Resu
 }
 
 /// Notes runs in the journal, if one was begun.
-pub(crate) fn note_runs(journal: &mut Option<Recorder>, notes: &[RunNote]) -> Result<(), NoMemory>
+///
+/// # Errors
+///
+/// `NoMemory` where memory ran out.
+pub fn note_runs(journal: &mut Option<Recorder>, notes: &[RunNote]) -> Result<(), NoMemory>
     ensures { OnOk result (journal.new ≡ option_map (with_facts (map has_run (map note_of notes.now))) journal.old) }
 {
     let Some(recorder) = journal else {

@@ -1,17 +1,17 @@
 -- What reports print yet, when items and what they tell are taken in.
-use Rattle.std.proofs.Common.{◌≡◌, ℕ, Bool, List, [], ◌∷◌, ◌++◌, flat_map, sym, ap, ◌∙◌, append_assoc, append-nil, refl}
+use Rattle.std.proofs.Common.{◌≡◌, ◌&&◌, ℕ, Bool, true, false, not, cond, List, [], ◌∷◌, ◌++◌, flat_map, sym, ap, ◌∙◌, append_assoc, append-nil, refl}
 use Rattle.std.proofs.lemmas.List.Concat.{flat_map-append}
 use Rattle.bench_workload.specs.Summary.{summary_text}
 use Rattle.bench_workload.specs.declared.summary.Counts.{Counts}
 use Rattle.live_cmd.specs.declared.command.Item.{Item}
 use Rattle.live_entries.specs.declared.entry.Entry.{Entry}
-use Rattle.live_entries.specs.Printed.{printed}
+use Rattle.live_entries.specs.Printed.{line_of_entry, printed}
 use Rattle.live_words.specs.declared.jobs.ScriptJob.TheVariants as job
 use Rattle.wire_model.specs.Notes.{Note, frame, frames}
 use Rattle.wire_model.specs.Wired.{Wires, notes_of, wired_from, wires_after}
 use Rattle.page_wire.specs.Telling.{wires_behind}
 use Rattle.live_report.specs.Counts.{added, counts_of, page_after}
-use Rattle.live_report.specs.Reports.{output_of, still}
+use Rattle.live_report.specs.Reports.{output_of, still, AreTraced}
 use Rattle.live_report.specs.declared.report.Report.TheVariants as report
 use Rattle.live_report.proofs.Sums.{added_none, counts_more, none_added, page_more}
 
@@ -47,6 +47,17 @@ unfolding still
 lines_entries trace old new told e is es =
     ap (λ t. t ++ flat_map (printed trace) es) e ∙ append_assoc old (flat_map (printed trace) told) (flat_map (printed trace) es)
     ∙ ap (λ t. old ++ t) (sym (flat_map-append (printed trace) told es))
+
+-- nothing is printed of what only a trace prints
+untraced : (front es : List Entry) → AreTraced front → flat_map (printed false) (front ++ es) ≡ flat_map (printed false) es
+untraced [] es h = refl
+untraced (e ∷ front) es h =
+    ap (λ (b : Bool). cond (b && not false) [] (line_of_entry e) ++ flat_map (printed false) (front ++ es)) h.0 ∙ untraced front es h.1
+
+pub lines_untraced : (trace : Bool) → not trace ≡ true → (is : List Item) (front es : List Entry) → AreTraced front → still (report.Lines trace) is (front ++ es) ≡ still (report.Lines trace) is es
+unfolding still
+lines_untraced true e is front es h = absurd cc
+lines_untraced false e is front es h = untraced front es h
 
 -- the end
 pub summary_ended : (n : ℕ) (counts : Counts) (page old new : List ℕ) → new ≡ old ++ summary_text n counts page → new ≡ old ++ still (report.Summary n counts page) [] []

@@ -1,10 +1,10 @@
 // How a job reports what the items of a script come to.
-ghost use Rattle.std.specs.Prelude.{◌≡◌, ◌≤◌, ◌<◌, ◌+◌, ◌^◌, ◌++◌, List, [], ◌∷◌, IfOk, OnOk, flat_map};
+ghost use Rattle.std.specs.Prelude.{◌≡◌, ◌≤◌, ◌<◌, ◌+◌, ◌^◌, ◌++◌, List, [], ◌∷◌, true, IfOk, OnOk, flat_map};
 ghost use Rattle.std.specs.List.{AllByRecursion};
 ghost use Rattle.live_cmd.specs.declared.command.Item.{Item as AnItem};
 ghost use Rattle.live_entries.specs.declared.entry.Entry.{Entry as AnEntry};
 ghost use Rattle.live_entries.specs.Printed.{printed, IsSizedEntry};
-ghost use Rattle.live_report.specs.Reports.{counted, output_of, still};
+ghost use Rattle.live_report.specs.Reports.{counted, output_of, still, AreTraced};
 
 use crate::counters::{no_counts, turn_page, with_entries, with_item};
 use bench_workload::{Counts, put_summary};
@@ -77,6 +77,17 @@ impl Report {
             ScriptJob::Wire => Ok(Report::Frames {
                 told: ToldPages::new(alloc),
             }),
+        }
+    }
+
+    /// Whether it leaves out what is told of a trace.
+    pub fn is_untraced(&self) -> bool
+        ensures { result ≡ true → (is : List AnItem) (runs es : List AnEntry) → AreTraced runs → still self.now is (runs ++ es) ≡ still self.now is es }
+    {
+        match self {
+            Report::Lines { trace } => !*trace,
+            Report::Summary { .. } => false,
+            Report::Frames { .. } => false,
         }
     }
 

@@ -68,8 +68,9 @@ impl ScriptRun {
         Ok(run)
     }
 
-    // Does an item, and lets the report take it in with what it tells. What it asks of machine and report it gives back in the clauses that the
-    // machine has, so that items may follow one another; what was done is one clause, and each count that rises has one of its own.
+    // Does an item, and lets the report take it in with what it tells, but for what the report leaves out. What it asks of machine and report it
+    // gives back in the clauses that the machine has, so that items may follow one another; what was done is one clause, and each count that
+    // rises has one of its own.
     fn do_item(&mut self, item: Item) -> Result<(), NoMemory>
         requires kept { ⟦<Live as Running>⟧.kept self.old.live }
         requires meant { self.old.live.broken ≡ false → SomeHosts (λ hosts. ⟦<Shelf as Lent>⟧.answers hosts self.old.live.shelf × ⟦<Live as Running>⟧.sound hosts self.old.live) }
@@ -88,7 +89,8 @@ impl ScriptRun {
         ensures little { OnOk result (counted self.new.report ≤ counted self.old.report + (1 + 2 ^ 64)) }
     {
         self.report.take_item(&item);
-        let told = self.live.do_command(item)?;
+        let traced = !self.report.is_untraced();
+        let told = self.live.do_item(item, traced)?;
         self.report.take_entries(&mut self.out, &told)?;
         Ok(())
     }

@@ -1,0 +1,58 @@
+use Rattle.std.proofs.Common.{◌∙◌, ◌∷◌, ◌++◌, [], ℕ, List, length, map, refl, sym, ap, subst, arith}
+use Rattle.std.proofs.lemmas.List.{length-map}
+use Rattle.sig_base.specs.declared.value.Outcome.{Outcome}
+use Rattle.signal_model.specs.Values.{value_of}
+use Rattle.sig_effect.specs.declared.events.Event.TheVariants as event
+use Rattle.effect_model.specs.Worlds.{settle}
+use Rattle.effect_laws.proofs.SharedCounts.{all_keep_counts}
+use Rattle.sig_effect.proofs.SharedKinds.{all_keep_kinds}
+use Rattle.sig_effect.specs.Stores.{environment, AreRuled}
+use Rattle.live_entries.specs.declared.entry.Entry.{Entry}
+use Rattle.live_entries.specs.declared.entry.Entry.TheVariants as entry
+use Rattle.live_model.specs.Names.{number_of}
+use Rattle.live_labels.specs.Views.{labels_of}
+use Rattle.live_labels.proofs.Shared.{told_by}
+use Rattle.live_core.proofs.Batched.{roomy_same}
+use Rattle.live_core.proofs.Commands.{acts_steps, leaves_acted, stays_by, then_told}
+use Rattle.live_core.proofs.LeftOut.{ran, traced_runs, untold_runs}
+use Rattle.live_core.proofs.machine.Machine.get_untraced.Goals as goal
+
+pub returns-clause-did : goal.returns-clause-did
+returns-clause-did g c = λ slacks count.
+    let m = c.args.self.now in
+    let notes = c.settled.new.notes.items in
+    let front : List Entry = told_by (labels_of m.labels) (ran notes) in
+    record {
+      front = front;
+      hidden = traced_runs (labels_of m.labels) notes;
+      whole = λ e. absurd cc;
+      did = record {
+        steps = λ hosts all sound.
+            let env = environment hosts slacks in
+            let n = c.of-signal.ensures ∙ c.number_of.ensures in
+            then_told hosts _ (record m { world = c.settled.new.world; journal = c.note_runs.new.journal }) front (entry.Outcome c.args.name c.in_ok-outcome.outcome)
+            (entry.Outcome c.args.name (value_of hosts m.world.graph.state.signals (number_of m.names c.args.name) [])) (front ++ c.in_ok-told.told.items) _
+            (acts_steps hosts _ _ m c.settled.new.world m.labels c.note_runs.new.journal [] (ran notes)
+            (settle env (c.of-signal.result ∷ [])) (settle env (number_of m.names c.args.name ∷ [])) front
+            refl (c.in_ok-outcome.ensures.settled.does hosts slacks all sound) (λ i. settle env (n i ∷ []))
+            (untold_runs m.labels m.journal c.note_runs.new.journal notes (rw c.deref.ensures.value at c.in_ok-note_runs.ensures)))
+            (ap (λ (o : Outcome). entry.Outcome c.args.name o) (c.in_ok-outcome.ensures.value hosts all sound ∙ ap (λ (i : ℕ). value_of hosts m.world.graph.state.signals i []) n))
+            (ap (λ (es : List Entry). front ++ es) c.in_ok-told.ensures);
+        leaves = λ hosts all sound.
+            let tables = c.in_ok-outcome.ensures.tables in
+            let e = c.in_ok-outcome.ensures.settled in
+            let env = environment hosts [] in
+            let many = length-map notes event.Run in
+            let worn = e.worn in
+            let small = c.settled.new.notes.small in
+            let made = ap (λ t. t.effects_made) tables in
+            leaves_acted _ _ count m c.settled.new.world m.labels c.note_runs.new.journal c.requires.can.ready (record { signals = refl; owners = refl; pages = refl; watchers = refl })
+            (stays_by _ _ m.world c.settled.new.world (settle env (c.of-signal.result ∷ [])) (e.does hosts [] all sound).whole
+            (all_keep_counts.settling env (c.of-signal.result ∷ [])) (all_keep_kinds.settling env (c.of-signal.result ∷ [])))
+            tables (roomy_same m.world.graph.state.signals c.settled.new.world.graph.state.signals m.batch e.signals c.requires.can.ready.batch) (λ a. e.agrees)
+            (λ r. subst (AreRuled count) (sym e.signals) r) (omega (arith, worn, many, small, made));
+        answers = c.in_ok-outcome.ensures.settled.answers;
+        counted = c.in_ok-outcome.ensures.counted;
+        most = let a = c.in_ok-outcome.ensures.settled.most in let many = length-map notes event.Run in let d = c.settled.new.notes.small in omega (arith, a, many, d);
+      };
+    }
