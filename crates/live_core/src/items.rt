@@ -53,7 +53,8 @@ impl Machine {
         })
     }
 
-    /// Does what a verb says to a name.
+    /// Does what a verb says to a name. It is a function by itself in the program too, as `perform` is, so that a get or a set pays for no other command.
+    #[inline(never)]
     pub(crate) fn do_verb(
         &mut self,
         shelf: &mut Shelf,
@@ -110,6 +111,7 @@ impl Machine {
     /// # Errors
     ///
     /// `NoMemory` alone.
+    #[inline(never)]
     pub fn perform(
         &mut self,
         shelf: &mut Shelf,

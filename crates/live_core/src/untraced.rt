@@ -126,6 +126,7 @@ impl Machine {
     {
         match command {
             Command::Named { verb, name } => self.do_verb_for(shelf, rules, verb, name, traced),
+            Command::Set { name, value } => self.set(rules, &name, value),
             command => self.perform(shelf, rules, command),
         }
     }
