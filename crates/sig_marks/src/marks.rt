@@ -76,6 +76,7 @@ impl Marks {
     }
 
     /// Whether a signal is marked, as what is gone counts; past the last one none is.
+    #[inline(always)]
     pub fn is_marked(&self, id: NodeId) -> bool
         ensures { result ≡ marked_at self.now.marked id }
     {

@@ -5,6 +5,7 @@ ghost use Rattle.sig_store.specs.Stored.{entry};
 use sig_store::Store;
 
 /// Whether something stands under a number.
+#[inline(always)]
 pub(crate) fn stands_in<T>(store: &Store<T>, id: u128) -> bool
     ensures { result ≡ is_some (entry store.now.entries id) }
 {

@@ -10,6 +10,7 @@ use indexmap::IndexSet;
 use sig_store::Store;
 
 /// Whether a signal is marked, as what is gone counts; past the last one none is.
+#[inline(always)]
 pub(crate) fn is_marked_in(marked: &Store<bool>, id: u128) -> bool
     ensures { result ≡ marked_at (marks_of marked.now.entries) id }
 {
@@ -20,6 +21,7 @@ pub(crate) fn is_marked_in(marked: &Store<bool>, id: u128) -> bool
 }
 
 /// Marks a signal, and tells whether it was marked before. It takes no memory.
+#[inline(always)]
 pub(crate) fn mark_one(marked: &mut Store<bool>, id: u128) -> bool
     requires { id < length marked.old.entries }
     ensures was { result ≡ marked_at (marks_of marked.old.entries) id }
@@ -34,6 +36,7 @@ pub(crate) fn mark_one(marked: &mut Store<bool>, id: u128) -> bool
 }
 
 /// Takes the mark of a signal that stands. It takes no memory.
+#[inline(always)]
 pub(crate) fn unmark_one(marked: &mut Store<bool>, id: u128)
     ensures marked { marks_of marked.new.entries ≡
         (if is_some (entry marked.old.entries id) then slice_set (marks_of marked.old.entries) id false else marks_of marked.old.entries) }

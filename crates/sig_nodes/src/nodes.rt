@@ -59,6 +59,7 @@ impl Nodes {
     }
 
     /// The node of a signal, none where it is gone or wasn't made.
+    #[inline(always)]
     pub(crate) fn at(&self, id: NodeId) -> Option<&Node>
         ensures some { IfSome result (λ x. slice_get self.now.items id ≡ Some x.now) }
         ensures gone { IfNone result (body_at self.now.items id ≡ body.Gone) }
@@ -68,6 +69,7 @@ impl Nodes {
     }
 
     /// The node of a live signal, for writing.
+    #[inline(always)]
     pub(crate) fn node_mut(&mut self, id: NodeId) -> &mut Node
         requires { is_live_body (body_at self.old.items id) ≡ true }
         ensures* writes_back { sem 𝓛 (lends_node self.entry id result) }

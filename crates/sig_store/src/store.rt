@@ -69,6 +69,7 @@ fn note_hint(hints: &mut [usize], number: u128, place: usize) {
 }
 
 // The value that a place holds, where it is that of a number.
+#[inline(always)]
 fn checked_value<T>(held: &Slab<Held<T>>, place: usize, number: u128) -> Option<&T>
     ensures number { IfSome result (λ v. number_there (held_at held.now) place ≡ Some number) }
     ensures value { IfSome result (λ v. value_there (held_at held.now) (Some place) ≡ Some v.now) }
@@ -82,6 +83,7 @@ fn checked_value<T>(held: &Slab<Held<T>>, place: usize, number: u128) -> Option<
 }
 
 // A place, where it holds the value of a number.
+#[inline(always)]
 fn checked_place<T>(held: &Slab<Held<T>>, place: usize, number: u128) -> Option<usize>
     ensures { IfSome result (λ p. number_there (held_at held.now) p ≡ Some number) }
 {
@@ -90,6 +92,7 @@ fn checked_place<T>(held: &Slab<Held<T>>, place: usize, number: u128) -> Option<
 }
 
 // The value of a number that is its own place, as each is where nothing was taken out before.
+#[inline(always)]
 fn first_value<T>(held: &Slab<Held<T>>, number: u128) -> Option<&T>
     ensures { IfSome result (λ v. IsValueOf (held_at held.now) number v.now) }
 {
@@ -100,6 +103,7 @@ fn first_value<T>(held: &Slab<Held<T>>, number: u128) -> Option<&T>
 }
 
 // The place of such a number.
+#[inline(always)]
 fn first_place<T>(held: &Slab<Held<T>>, number: u128) -> Option<usize>
     ensures { IfSome result (λ p. number_there (held_at held.now) p ≡ Some number) }
 {
@@ -193,6 +197,7 @@ fn later_place<T>(
 }
 
 // Where the value of a number stands.
+#[inline(always)]
 fn place_of<T>(
     places: &IndexMap<u128, usize>,
     hints: &[usize],
@@ -209,6 +214,7 @@ fn place_of<T>(
 }
 
 // Where the value of a number that stands does.
+#[inline(always)]
 fn standing_place<T>(
     places: &IndexMap<u128, usize>,
     hints: &[usize],
@@ -284,6 +290,7 @@ impl<T> Store<T> {
     }
 
     /// The value of a number, none where it was taken out or wasn't given.
+    #[inline(always)]
     pub fn get(&self, number: u128) -> Option<&T>
         ensures { option_copied result ≡ entry self.now.entries number }
     {
@@ -294,6 +301,7 @@ impl<T> Store<T> {
     }
 
     /// The value of a number that stands, for writing.
+    #[inline(always)]
     pub fn value_mut(&mut self, number: u128) -> &mut T
         requires { IsSome (entry self.old.entries number) }
         ensures* writes_back { sem 𝓛 (lends_value T.row self.entry number result) }
