@@ -1,9 +1,14 @@
 -- What is told at once of a formula of at most one operation.
+use Rattle.std.specs.Prelude.{◌≡◌, Some, None}
+use Rattle.sig_base.specs.declared.value.Step.{Step}
 use Rattle.sig_base.specs.declared.value.Value.TheVariants as value
 use Rattle.sig_base.specs.declared.value.Outcome.{Outcome}
 use Rattle.sig_base.specs.declared.value.Outcome.TheVariants.{Good}
 use Rattle.sig_formula.specs.declared.at_once.AtOnce.{AtOnce}
 use Rattle.sig_formula.specs.declared.at_once.AtOnce.TheVariants as at_once
+use Rattle.sig_formula.specs.declared.at_once.Told.{Told}
+use Rattle.sig_formula.specs.declared.at_once.Told.TheVariants.{Slot as SlotTold, Ended, Open}
+use Rattle.sig_formula.specs.Evaluation.{step_by}
 use Rattle.sig_formula.specs.declared.at_once.Operand.{Operand}
 use Rattle.sig_formula.specs.declared.at_once.Operand.TheVariants as operand
 use Rattle.sig_formula.specs.declared.evaluate.FormulaStep.{FormulaStep}
@@ -20,3 +25,9 @@ abbrev pub operand_told : Operand → FormulaStep → FormulaStep
 operand_told (operand.Ask n tracked) s = Ask n tracked
 operand_told (operand.Number m) s = End (Good (value.Int m))
 operand_told operand.Open s = s
+
+-- what is told of a formula by what it comes to is the step that it answers; where nothing is told, that may be any
+abbrev pub IsTold : Told → Outcome → Step → Type 0
+IsTold (SlotTold n) o s = step_by (Some n) o ≡ s
+IsTold Ended o s = step_by None o ≡ s
+IsTold Open o s = Unit {0}

@@ -1,11 +1,11 @@
 // Formulas of few operations, which are answered without a list of instructions.
-ghost use Rattle.std.specs.Prelude.{◌≡◌, ◌<◌, false, length, Option, IfOk, IfSome};
+ghost use Rattle.std.specs.Prelude.{◌≡◌, ◌<◌, false, length, None, Option, IfOk, IfSome};
 ghost use Rattle.std.specs.Option.{option_copied};
 ghost use Rattle.sig_base.specs.declared.value.Value.TheVariants as value;
 ghost use Rattle.sig_formula.specs.declared.evaluate.FormulaStep.TheVariants.{End};
 ghost use Rattle.sig_formula.specs.declared.formula.RowRef.{RowRef};
-ghost use Rattle.sig_formula.specs.Evaluation.{formula_step, operated};
-ghost use Rattle.sig_formula.specs.Operations.{operand_told, told};
+ghost use Rattle.sig_formula.specs.Evaluation.{answer_of, formula_step, operated};
+ghost use Rattle.sig_formula.specs.Operations.{operand_told, told, IsTold};
 ghost use Rattle.sig_formula.specs.Programs.{decides};
 ghost use Rattle.sig_formula.specs.Trees.{binary, tree};
 
@@ -21,6 +21,17 @@ use sig_base::{Known, NoMemory, Outcome, Scalar, Value};
 pub(crate) enum AtOnce {
     Ask(u32, bool),
     End,
+    Open,
+}
+
+/// What is told at once of a formula by the values known so far. An outcome stands where the caller has a place for it.
+#[derive(Clone, Copy)]
+pub enum Told {
+    /// It needs the value of a slot.
+    Slot(u32),
+    /// It came to an outcome.
+    Ended,
+    /// Nothing is told.
     Open,
 }
 
@@ -220,5 +231,23 @@ pub(crate) fn answer_at_once(
             Ok(operation_at_once(tracking, *op, left, right, tracked, untracked, outcome))
         }
         _ => Ok(AtOnce::Open),
+    }
+}
+
+/// What a formula of few operations answers to the values known so far, without a list of instructions: the slot that it needs and that isn't
+/// known, or that it came to what stands in `outcome` then. Of other formulas nothing is told.
+///
+/// # Errors
+///
+/// `NoMemory` alone.
+#[tactic(auto, using(crate::proofs::Progress::end_told))]
+#[inline(always)]
+pub fn told_at_once(f: &Formula, known: &[Known], outcome: &mut Outcome) -> Result<Told, NoMemory>
+    ensures { IfOk result (λ t. IsTold t outcome.new (answer_of (tree f.now) None known.now)) }
+{
+    match answer_at_once(false, f, None, known, &[], outcome)? {
+        AtOnce::Ask(slot, _) => Ok(Told::Slot(slot)),
+        AtOnce::End => Ok(Told::Ended),
+        AtOnce::Open => Ok(Told::Open),
     }
 }

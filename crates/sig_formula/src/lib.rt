@@ -13,6 +13,7 @@ mod resume;
 mod rounds;
 mod row;
 
+pub use at_once::{Told, told_at_once};
 pub use copies::copy_formula;
 pub use evaluate::{FormulaStep, formula_step, step};
 pub use formula::{BinOp, Formula, RowRef};
