@@ -191,7 +191,7 @@ fn operation_at_once(
 /// # Errors
 ///
 /// `NoMemory` alone.
-#[inline]
+#[inline(always)]
 pub(crate) fn answer_at_once(
     tracking: bool,
     f: &Formula,

@@ -8,7 +8,6 @@ ghost use Rattle.sig_formula.specs.Programs.{code};
 ghost use Rattle.sig_formula.specs.Machines.{IsPaused, IsReached, begun, is_asked, next_by, stepped};
 ghost use Rattle.sig_formula.specs.Trees.{Tree, tree};
 
-use crate::at_once::{AtOnce, answer_at_once};
 use crate::evaluate::served;
 use crate::machine::Machine;
 use crate::program::{Instruction, place, put};
@@ -140,10 +139,15 @@ impl Paused {
         self.rewind();
     }
 
-    // The same as `advance`, by the list of its instructions.
+    /// Goes on with the evaluation of the formula and the row of the calls before, by values that begin with those of the call before: the
+    /// slot that it needs and that isn't known. Where there is none, what the formula comes to stands in `outcome`.
+    ///
+    /// # Errors
+    ///
+    /// `NoMemory` alone, after which it may only be dropped.
     #[tactic(auto, using(crate::proofs::Progress::anew_is_paused, crate::proofs::Progress::end_told))]
     #[inline(never)]
-    fn advance_by_list(
+    pub fn advance(
         &mut self,
         alloc: Global,
         f: &Formula,
@@ -163,33 +167,6 @@ impl Paused {
                 self.rewind();
                 Ok(None)
             }
-        }
-    }
-
-    /// Goes on with the evaluation of the formula and the row of the calls before, by values that begin with those of the call before: the
-    /// slot that it needs and that isn't known. Where there is none, what the formula comes to stands in `outcome`.
-    ///
-    /// # Errors
-    ///
-    /// `NoMemory` alone, after which it may only be dropped.
-    #[tactic(auto, using(crate::proofs::Progress::end_told))]
-    pub fn advance(
-        &mut self,
-        alloc: Global,
-        f: &Formula,
-        row: Option<&RowRef>,
-        known: &[Known],
-        outcome: &mut Outcome,
-    ) -> Result<Option<u32>, NoMemory>
-        requires row { IfSome row (λ r. r.now.place < length r.now.rows.rows) }
-        requires paused { IsPaused self.old (tree f.now) (option_copied row) known.now }
-        ensures answer { IfOk result (λ o. step_by o outcome.new ≡ answer_of (tree f.now) (option_copied row.entry) known.now) }
-        ensures paused { OnOk result (IsPaused self.new (tree f.now) (option_copied row.entry) known.now) }
-    {
-        match answer_at_once(false, f, row, known, &[], outcome)? {
-            AtOnce::Ask(slot, _) => Ok(Some(slot)),
-            AtOnce::End => Ok(None),
-            AtOnce::Open => self.advance_by_list(alloc, f, row, known, outcome),
         }
     }
 }
