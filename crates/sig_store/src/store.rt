@@ -1,5 +1,5 @@
 // Values by number.
-ghost use Rattle.std.specs.Prelude.{◌≡◌, ◌+◌, ◌<◌, ◌≤◌, ◌^◌, ◌++◌, ◌∷◌, [], length, IsSome, IfSome, Some, None, OnOk, nat_eq, option_copied, slice_set};
+ghost use Rattle.std.specs.Prelude.{◌≡◌, ◌+◌, ◌<◌, ◌≤◌, ◌^◌, ◌++◌, ◌∷◌, [], length, IsSome, IfSome, Some, None, OnOk, if◌then◌else◌, is_some, nat_eq, option_copied, slice_set};
 ghost use Rattle.std.specs.Borrow.{sem};
 ghost use Rattle.indexmap.specs.IndexMap.{get, spare, Updates};
 ghost use Rattle.slab.specs.Slab.{get as held_at};
@@ -11,6 +11,7 @@ use sig_base::NoMemory;
 use slab::Slab;
 use std::alloc::Global;
 use std::marker::Model;
+use std::mem;
 
 // How many hints there are: the place that was given last to a number with a remainder by this is told without the index.
 const HINTS: usize = 32_768;
@@ -338,5 +339,21 @@ impl<T> Store<T> {
         let place = forget_place(&mut self.places, number);
         let Held { number: _, value } = self.held.remove(place);
         value
+    }
+}
+
+impl<T: Drop> Store<T> {
+    /// Puts another value under a number where one stands, and gives that one back.
+    #[inline(always)]
+    pub fn replace(&mut self, number: u128, value: T) -> Option<T>
+        ensures before { result ≡ entry self.old.entries number }
+        ensures entries { self.new.entries ≡
+            (if is_some (entry self.old.entries number) then slice_set self.old.entries number (Some value) else self.old.entries) }
+        ensures left { self.new.room ≡ self.old.room }
+    {
+        match place_of(&self.places, &self.hints, &self.held, number) {
+            Some(place) => Some(mem::replace(&mut self.held[place].value, value)),
+            None => None,
+        }
     }
 }
