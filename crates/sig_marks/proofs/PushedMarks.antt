@@ -1,5 +1,5 @@
 -- Lists of marks.
-use Rattle.std.proofs.Common.{◌≡◌, ℕ, zero, suc, ◌+◌, ◌<◌, ◌≤◌, ◌==◌, ◌||◌, Bool, true, false, cond, List, [], ◌∷◌, ◌++◌, length, drop, refl, sym, ap, ◌∙◌, subst, arith, ◌⊎◌, inl, inr, Option, Some, None, is_some, append_assoc, nat_lt}
+use Rattle.std.proofs.Common.{◌≡◌, ℕ, zero, suc, ◌+◌, ◌<◌, ◌≤◌, ◌==◌, ◌||◌, Bool, true, false, cond, if◌then◌else◌, List, [], ◌∷◌, ◌++◌, length, drop, refl, sym, ap, ◌∙◌, subst, arith, ◌⊎◌, inl, inr, Option, Some, None, is_some, append_assoc, nat_lt}
 use Rattle.std.specs.Prelude.{slice_set, get_or}
 use Rattle.std.specs.List.{All}
 use Rattle.std.proofs.lemmas.Bool.{eqb-true, eq-eqb}
@@ -8,6 +8,7 @@ use Rattle.signal_model.specs.Signals.{is_in}
 use Rattle.sig_marks.specs.Tables.{Reached, Spreads, dependants_at, first, marked_at, next}
 use Rattle.sig_store.specs.Stored.{entry}
 use Rattle.sig_marks.specs.Sets.{mark_in, marks_of, newly_marked, standing_count, stands_of, unmarked_count, with_marks}
+use Rattle.sig_marks.proofs.LinkedSets.{stands_same}
 use Rattle.signal_model.proofs.Shared.{either, or_right, tested}
 
 pub set_here : (t : List Bool) (d : ℕ) → d < length t → marked_at (slice_set t d true) d ≡ true
@@ -168,13 +169,34 @@ marks_gap (None ∷ ms) zero h = refl
 marks_gap (Some b ∷ ms) zero h = cc
 marks_gap (m ∷ ms) (suc i) h = ap (λ ts. mark_in m ∷ ts) (marks_gap ms i h)
 
--- what isn't marked stands
-pub unmarked_stands : (ms : List (Option Bool)) (i : ℕ) → i < length ms → marked_at (marks_of ms) i ≡ false → is_some (entry ms i) ≡ true
-unmarked_stands [] i l h = absurd (omega arith)
-unmarked_stands (None ∷ ms) zero l h = cc
-unmarked_stands (Some b ∷ ms) zero l h = refl
-unmarked_stands (m ∷ ms) (suc i) l h = let k : i < length ms = omega arith in unmarked_stands ms i k h
+-- a mark is another where one stands
+pub marks_replaced : (ms ms' : List (Option Bool)) (i : ℕ) (b : Bool) → ms' ≡ (if is_some (entry ms i) then slice_set ms i (Some b) else ms) →
+    marks_of ms' ≡ (if is_some (entry ms i) then slice_set (marks_of ms) i b else marks_of ms)
+marks_replaced ms ms' i b e = ap marks_of e ∙ go (is_some (entry ms i))
+  where
+    go : (t : Bool) → marks_of (if t then slice_set ms i (Some b) else ms) ≡ (if t then slice_set (marks_of ms) i b else marks_of ms)
+    go true = marks_set ms i (Some b)
+    go false = refl
 
+-- the same signals stand then
+pub stands_replaced : (ms ms' : List (Option Bool)) (i : ℕ) (b : Bool) → ms' ≡ (if is_some (entry ms i) then slice_set ms i (Some b) else ms) →
+    stands_of ms' ≡ stands_of ms
+stands_replaced ms ms' i b e = ap stands_of e ∙ go (entry ms i) refl
+  where
+    go : (o : Option Bool) → entry ms i ≡ o → stands_of (if is_some o then slice_set ms i (Some b) else ms) ≡ stands_of ms
+    go None is = refl
+    go (Some x) is = stands_same ms i b x is
+
+-- what doesn't stand counts as marked already
+pub marked_replaced : (ms ms' : List (Option Bool)) (i : ℕ) → ms' ≡ (if is_some (entry ms i) then slice_set ms i (Some true) else ms) →
+    marks_of ms' ≡ slice_set (marks_of ms) i true
+marked_replaced ms ms' i e = marks_replaced ms ms' i true e ∙ go (is_some (entry ms i)) refl
+  where
+    go : (t : Bool) → is_some (entry ms i) ≡ t → (if t then slice_set (marks_of ms) i true else marks_of ms) ≡ slice_set (marks_of ms) i true
+    go true there = refl
+    go false gone = marks_gap ms i gone
+
+-- no more are unmarked than stand
 pub unmarked_few : (ms : List (Option Bool)) → unmarked_count (marks_of ms) ≤ standing_count (stands_of ms)
 unmarked_few [] = omega arith
 unmarked_few (None ∷ ms) = omega (arith, unmarked_few ms)

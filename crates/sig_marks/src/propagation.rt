@@ -28,11 +28,10 @@ pub(crate) fn mark_one(marked: &mut Store<bool>, id: u128) -> bool
     ensures marked { marks_of marked.new.entries ≡ slice_set (marks_of marked.old.entries) id true }
     ensures stands { stands_of marked.new.entries ≡ stands_of marked.old.entries }
 {
-    if is_marked_in(marked, id) {
-        return true;
+    match marked.replace(id, true) {
+        Some(mark) => mark,
+        None => true,
     }
-    *marked.value_mut(id) = true;
-    false
 }
 
 /// Takes the mark of a signal that stands. It takes no memory.
@@ -42,10 +41,7 @@ pub(crate) fn unmark_one(marked: &mut Store<bool>, id: u128)
         (if is_some (entry marked.old.entries id) then slice_set (marks_of marked.old.entries) id false else marks_of marked.old.entries) }
     ensures stands { stands_of marked.new.entries ≡ stands_of marked.old.entries }
 {
-    if !stands_in(marked, id) {
-        return;
-    }
-    *marked.value_mut(id) = false;
+    let _before = marked.replace(id, false);
 }
 
 /// Takes what is kept of a signal's mark away; it is one less of those that stand, where it did. It takes no memory.

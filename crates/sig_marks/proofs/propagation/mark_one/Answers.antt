@@ -1,17 +1,22 @@
-use Rattle.std.proofs.Common.{Some, true, sym, ◌∙◌}
-use Rattle.sig_marks.specs.Sets.{marks_of}
-use Rattle.sig_marks.proofs.LinkedSets.{stands_same}
-use Rattle.sig_marks.proofs.PushedMarks.{marks_set, set_same, unmarked_stands}
+use Rattle.std.proofs.Common.{true, sym}
+use Rattle.sig_marks.proofs.PushedMarks.{marked_replaced, marks_at, marks_there, stands_replaced}
+use Rattle.std.specs.Prelude.{None}
 use Rattle.sig_marks.proofs.propagation.mark_one.Goals as goal
 
-pub returns-then-is_marked_in-clause-marked : goal.returns-then-is_marked_in-clause-marked
-returns-then-is_marked_in-clause-marked c = sym (set_same (marks_of c.args.marked.now.entries) c.args.id (sym c.is_marked_in.ensures ∙ c.if-is_marked_in.true))
+pub returns-in-Some-clause-was : goal.returns-in-Some-clause-was
+returns-in-Some-clause-was c = marks_there c.args.marked.now.entries c.args.id c.in-Some.mark (sym c.in-Some.ensures.before)
 
-pub value_mut-requires : goal.value_mut-requires
-value_mut-requires c = unmarked_stands c.args.marked.now.entries c.args.id c.requires (sym c.is_marked_in.ensures ∙ c.if-is_marked_in.false)
+pub returns-in-Some-clause-marked : goal.returns-in-Some-clause-marked
+returns-in-Some-clause-marked c = marked_replaced c.args.marked.now.entries c.replace.new.self.entries c.args.id c.in-Some.ensures.entries
 
-pub returns-clause-marked : goal.returns-clause-marked
-returns-clause-marked c = marks_set c.args.marked.now.entries c.args.id (Some true)
+pub returns-in-Some-clause-stands : goal.returns-in-Some-clause-stands
+returns-in-Some-clause-stands c = stands_replaced c.args.marked.now.entries c.replace.new.self.entries c.args.id true c.in-Some.ensures.entries
 
-pub returns-clause-stands : goal.returns-clause-stands
-returns-clause-stands c = stands_same c.args.marked.now.entries c.args.id true c.value_mut.result.now c.value_mut.ensures.value
+pub returns-in-None-clause-was : goal.returns-in-None-clause-was
+returns-in-None-clause-was c = sym (marks_at c.args.marked.now.entries c.args.id None c.requires (sym c.in-None.ensures.before))
+
+pub returns-in-None-clause-marked : goal.returns-in-None-clause-marked
+returns-in-None-clause-marked c = marked_replaced c.args.marked.now.entries c.replace.new.self.entries c.args.id c.in-None.ensures.entries
+
+pub returns-in-None-clause-stands : goal.returns-in-None-clause-stands
+returns-in-None-clause-stands c = stands_replaced c.args.marked.now.entries c.replace.new.self.entries c.args.id true c.in-None.ensures.entries
