@@ -10,7 +10,6 @@ ghost use Rattle.sig_nodes.specs.Nodes.{are_live_bodies, asks_host_body, asks_ho
 ghost use Rattle.sig_nodes.specs.Search.{of_holder, some_holder};
 
 use crate::answers::Standing;
-use crate::id_lists::IdList;
 use crate::node::{Body, Computation, Node, Source};
 use crate::nodes::Nodes;
 use crate::seats::Seats;
@@ -248,17 +247,6 @@ pub(crate) fn shown_at(nodes: &Nodes, id: NodeId) -> Result<Outcome, NoMemory>
     match body_at(nodes, id) {
         Some(body) => shown(body),
         None => Ok(Outcome::Bad(Fault::Gone)),
-    }
-}
-
-/// The sources that a computed keeps, in the list that its run has.
-pub(crate) fn shared_sources_at(nodes: &Nodes, id: NodeId) -> Result<IdList, NoMemory>
-    requires { is_some (memo_body (body_at nodes.now.items id)) ≡ true }
-    ensures { IfOk result (λ l. l.items ≡ source_names (sources_in (memo_body (body_at nodes.now.items id)))) }
-{
-    match body_at(nodes, id) {
-        Some(Body::Computed(computation)) => computation.shared_sources(),
-        _ => unreachable!(),
     }
 }
 

@@ -7,11 +7,11 @@ ghost use Rattle.sig_nodes.specs.Answers.{has_moved, slots_here, IsAnswerHere, I
 ghost use Rattle.sig_nodes.specs.States.{counted, is_computing, is_given, progress_at, with_kept_run, with_look, with_progress, Becomes, CanWear, GoesOn};
 
 use crate::answers::Asked;
-use crate::bodies::{compared_at, numbers_now, shared_sources_at};
+use crate::bodies::{compared_at, computation_at, numbers_now};
 use crate::end_marks::{end_mark, run_unmarks, stop_unmarks};
 use crate::graph::Graph;
 use crate::id_lists::IdList;
-use crate::links::{copied, has_read, relink};
+use crate::links::{copied, kept_list, relink};
 use crate::node::Memo;
 use crate::store::{ask_at, begin_at, end_at, keep_memo_at, renew_memo_at};
 use sig_base::{Fault, Known, NoMemory, NodeId, Outcome};
@@ -167,44 +167,23 @@ impl Graph {
         let unmarks = run_unmarks(&self.nodes, &self.marks, outcome, reads);
         end_mark(&mut self.marks, id, unmarks);
         self.worn += 1;
-        renew_memo_at(&mut self.nodes, id, outcome, &self.room, self.generation);
+        renew_memo_at(
+            &mut self.nodes,
+            id,
+            outcome,
+            &mut self.room,
+            self.generation,
+        );
         Ok(())
     }
 
-    // Whether a computed keeps a run that read exactly these.
-    fn has_read(&self, id: NodeId, reads: &[NodeId]) -> bool
-        ensures kept { result ≡ true → is_some (memo_of self.now.state.memos id) ≡ true }
-        ensures same { result ≡ true → source_names (sources_of self.now.state.memos id) ≡ reads.now }
+    // The list of what a computed's kept run read, where it read exactly these.
+    fn kept_list(&self, id: NodeId, reads: &[NodeId]) -> Result<Option<IdList>, NoMemory>
+        ensures kept { IfOk result (λ o. is_some o ≡ true → is_some (memo_of self.now.state.memos id) ≡ true) }
+        ensures same { IfOk result (λ o. is_some o ≡ true → source_names (sources_of self.now.state.memos id) ≡ reads.now) }
+        ensures list { IfOk result (λ o. IfSome o (λ l. l.items ≡ reads.now)) }
     {
-        has_read(&self.nodes, id, reads)
-    }
-
-    // The sources of the run that a computed keeps, in the list that the run has.
-    fn shared_sources(&self, id: NodeId) -> Result<IdList, NoMemory>
-        requires { is_some (memo_of self.now.state.memos id) ≡ true }
-        ensures { IfOk result (λ l. l.items ≡ source_names (sources_of self.now.state.memos id)) }
-    {
-        shared_sources_at(&self.nodes, id)
-    }
-
-    // Ends an evaluation with a run that read what the kept one did, and gives the list that this one has.
-    fn keep_same(
-        &mut self,
-        id: NodeId,
-        outcome: &mut Outcome,
-        reads: &[NodeId],
-    ) -> Result<IdList, NoMemory>
-        requires kept { is_some (memo_of self.old.state.memos id) ≡ true }
-        requires same { source_names (sources_of self.old.state.memos id) ≡ reads.now }
-        requires computing { is_computing self.old.state id ≡ true }
-        requires given { All (λ n. is_given self.old n ≡ true) reads.now }
-        requires worn { CanWear self.old.state }
-        ensures list { IfOk result (λ l. l.items ≡ reads.now) }
-        ensures after { OnOk result (Becomes self.old self.new (with_kept_run self.old.state id outcome.old reads.now)) }
-        ensures seats { OnOk result (self.new.seats ≡ self.old.seats) }
-    {
-        let list = self.shared_sources(id)?;
-        self.keep_again(id, outcome, reads)?;
+        let list = kept_list(&self.nodes, id, reads)?;
         Ok(list)
     }
 
@@ -245,10 +224,11 @@ impl Graph {
         ensures after { OnOk result (Becomes self.old self.new (with_kept_run self.old.state id outcome.old reads.now)) }
         ensures seats { OnOk result (self.new.seats ≡ self.old.seats) }
     {
-        if self.has_read(id, reads) {
-            return self.keep_same(id, outcome, reads);
-        }
-        self.keep_anew(id, outcome, reads)
+        let Some(list) = self.kept_list(id, reads)? else {
+            return self.keep_anew(id, outcome, reads);
+        };
+        self.keep_again(id, outcome, reads)?;
+        Ok(list)
     }
 
     /// Ends an evaluation without a run.

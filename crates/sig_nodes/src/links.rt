@@ -1,11 +1,12 @@
 // Computeds among the dependants of what they read.
-ghost use Rattle.std.specs.Prelude.{◌≡◌, ◌<◌, length, true, is_some, IfOk, OnErr, OnOk};
+ghost use Rattle.std.specs.Prelude.{◌≡◌, ◌<◌, length, true, is_some, IfOk, IfSome, OnErr, OnOk};
 ghost use Rattle.std.specs.List.{All};
 ghost use Rattle.signal_model.specs.Memos.{source_names, sources_in};
 ghost use Rattle.sig_nodes.specs.Nodes.{body_at, memo_body};
 ghost use Rattle.sig_nodes.specs.Places.{AreLinked, KeepsStanding, LinksAnew};
 
 use crate::bodies::{computation_at, sources_at};
+use crate::id_lists::IdList;
 use crate::node::Computation;
 use crate::nodes::Nodes;
 use sig_base::{NoMemory, NodeId};
@@ -30,15 +31,24 @@ fn keeps_reads(computation: &Computation, reads: &[NodeId]) -> bool
     are_same(computation.sources(), reads)
 }
 
-/// The same of the computed that lives there.
-pub(crate) fn has_read(nodes: &Nodes, id: NodeId, reads: &[NodeId]) -> bool
-    ensures kept { result ≡ true → is_some (memo_body (body_at nodes.now.items id)) ≡ true }
-    ensures same { result ≡ true → source_names (sources_in (memo_body (body_at nodes.now.items id))) ≡ reads.now }
+/// The list of what a computed's kept run read, where it read exactly these.
+pub(crate) fn kept_list(
+    nodes: &Nodes,
+    id: NodeId,
+    reads: &[NodeId],
+) -> Result<Option<IdList>, NoMemory>
+    ensures kept { IfOk result (λ o. is_some o ≡ true → is_some (memo_body (body_at nodes.now.items id)) ≡ true) }
+    ensures same { IfOk result (λ o. is_some o ≡ true → source_names (sources_in (memo_body (body_at nodes.now.items id))) ≡ reads.now) }
+    ensures list { IfOk result (λ o. IfSome o (λ l. l.items ≡ reads.now)) }
 {
-    match computation_at(nodes, id) {
-        Some(computation) => keeps_reads(computation, reads),
-        None => false,
+    let Some(computation) = computation_at(nodes, id) else {
+        return Ok(None);
+    };
+    if !keeps_reads(computation, reads) {
+        return Ok(None);
     }
+    let list = computation.shared_sources()?;
+    Ok(Some(list))
 }
 
 /// These, in a list of their own.

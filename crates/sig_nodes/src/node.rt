@@ -137,13 +137,14 @@ impl Memo {
         }
     }
 
-    // A run more of the same sources, of which these are the numbers now. Its outcome goes where that of before stands.
-    fn renew(&mut self, outcome: &mut Outcome, numbers: &[Option<u128>], generation: u128)
-        requires { length numbers.now ≡ length self.old.sources }
-        ensures { self.new ≡ renewed (Some self.old) outcome.old numbers.now generation }
+    // A run more of the same sources, of which these are the numbers now. Its outcome and these go where those of before stand, which are
+    // left in their places.
+    fn renew(&mut self, outcome: &mut Outcome, numbers: &mut Vec<Option<u128>>, generation: u128)
+        requires { length numbers.old.items ≡ length self.old.sources }
+        ensures { self.new ≡ renewed (Some self.old) outcome.old numbers.old.items generation }
     {
         mem::swap(&mut self.outcome, outcome);
-        self.numbers.copy_from_slice(numbers);
+        mem::swap(&mut self.numbers, numbers);
         self.generation = generation;
         self.rewired = false;
     }
@@ -320,7 +321,7 @@ impl Computation {
     pub(crate) fn begin(&mut self)
         ensures { self.new ≡ record self.old { known = Some [] } }
     {
-        self.known.clear();
+        empty(&mut self.known);
         if let Some(paused) = &mut self.paused {
             paused.restart();
         }
@@ -382,12 +383,12 @@ impl Computation {
     pub(crate) fn keep_again(
         &mut self,
         outcome: &mut Outcome,
-        numbers: &[Option<u128>],
+        numbers: &mut Vec<Option<u128>>,
         generation: u128,
     )
         requires kept { is_some self.old.memo ≡ true }
-        requires numbers { length numbers.now ≡ length (sources_in self.old.memo) }
-        ensures { self.new ≡ record self.old { memo = Some (renewed self.old.memo outcome.old numbers.now generation); known = None } }
+        requires numbers { length numbers.old.items ≡ length (sources_in self.old.memo) }
+        ensures { self.new ≡ record self.old { memo = Some (renewed self.old.memo outcome.old numbers.old.items generation); known = None } }
     {
         self.computing = false;
         match &mut self.memo {
@@ -425,6 +426,17 @@ pub(crate) struct Node {
     pub(crate) number: u128,
     pub(crate) seat: usize,
     pub(crate) body: Body,
+}
+
+// Empties a list of values. Most are empty before.
+#[inline(always)]
+fn empty(known: &mut Vec<Known>)
+    ensures { known.new.items ≡ [] }
+{
+    if known.is_empty() {
+        return;
+    }
+    known.clear();
 }
 
 // Puts the values behind those that are there.

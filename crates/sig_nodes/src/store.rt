@@ -65,11 +65,16 @@ pub(crate) fn keep_memo_at(nodes: &mut Nodes, id: NodeId, memo: Memo)
 }
 
 // Keeps a run of a computed's node that read what the kept one did.
-fn renew_memo(node: &mut Node, outcome: &mut Outcome, numbers: &[Option<u128>], generation: u128)
+fn renew_memo(
+    node: &mut Node,
+    outcome: &mut Outcome,
+    numbers: &mut Vec<Option<u128>>,
+    generation: u128,
+)
     requires kept { is_some (memo_body node.old.body) ≡ true }
-    requires numbers { length numbers.now ≡ length (sources_in (memo_body node.old.body)) }
+    requires numbers { length numbers.old.items ≡ length (sources_in (memo_body node.old.body)) }
     requires worn { node.old.number + 1 < 2 ^ 128 }
-    ensures { node.new ≡ run_node (renewed (memo_body node.old.body) outcome.old numbers.now generation) node.old }
+    ensures { node.new ≡ run_node (renewed (memo_body node.old.body) outcome.old numbers.old.items generation) node.old }
 {
     match &mut node.body {
         Body::Computed(computation) => {
@@ -87,13 +92,13 @@ pub(crate) fn renew_memo_at(
     nodes: &mut Nodes,
     id: NodeId,
     outcome: &mut Outcome,
-    numbers: &[Option<u128>],
+    numbers: &mut Vec<Option<u128>>,
     generation: u128,
 )
     requires kept { is_some (memo_body (body_at nodes.old.items id)) ≡ true }
-    requires numbers { length numbers.now ≡ length (sources_in (memo_body (body_at nodes.old.items id))) }
+    requires numbers { length numbers.old.items ≡ length (sources_in (memo_body (body_at nodes.old.items id))) }
     requires worn { change_at nodes.old.items id + 1 < 2 ^ 128 }
-    ensures { nodes.new.items ≡ changed_at (run_node (renewed (memo_body (body_at nodes.old.items id)) outcome.old numbers.now generation)) id nodes.old.items }
+    ensures { nodes.new.items ≡ changed_at (run_node (renewed (memo_body (body_at nodes.old.items id)) outcome.old numbers.old.items generation)) id nodes.old.items }
 {
     renew_memo(nodes.node_mut(id), outcome, numbers, generation);
 }

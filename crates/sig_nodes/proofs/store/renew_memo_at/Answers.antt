@@ -25,7 +25,7 @@ pub returns : goal.returns
 returns c =
     let xs = c.args.nodes.now.items in
     let node = c.node_mut.result.now in
-    let ms = c.args.numbers.now in
+    let ms = c.args.numbers.now.items in
     let body = body_got xs c.args.id node c.node_mut.ensures.value in
     written xs c.args.id node c.renew_memo.new.node (run_node (renewed (memo_body (body_at xs c.args.id)) c.args.outcome.now ms c.args.generation)) c.node_mut.ensures.value
     (c.renew_memo.ensures ∙ ap (λ (b : Body). run_node (renewed (memo_body b) c.args.outcome.now ms c.args.generation) node) (sym body))

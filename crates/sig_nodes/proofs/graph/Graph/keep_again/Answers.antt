@@ -25,7 +25,7 @@ pub renew_memo_at-requires-clause-numbers : goal.renew_memo_at-requires-clause-n
 renew_memo_at-requires-clause-numbers c =
     let xs = c.self.inside.nodes.items in
     let names = sym (ap (λ m. source_names (sources_in m)) (memo_found xs c.self.inside.generation c.args.id)) ∙ ap (λ (s : Seen). source_names (sources_of s.state.memos c.args.id)) c.self.view_is ∙ c.requires.same in
-    numbers_length (number_at xs) (sources_in (memo_body (body_at xs c.args.id))) c.args.reads.now c.deref.result.now names (c.deref.ensures.value ∙ c.in_ok-numbers_now.ensures)
+    numbers_length (number_at xs) (sources_in (memo_body (body_at xs c.args.id))) c.args.reads.now c.numbers_now.new.numbers.items names c.in_ok-numbers_now.ensures
 
 pub end_mark-requires-clause-stands : goal.end_mark-requires-clause-stands
 end_mark-requires-clause-stands c =
@@ -45,7 +45,7 @@ invariant_of-self-2 c =
     let o = c.args.outcome.now in
     let rs = c.args.reads.now in
     let names = sym (ap (λ m. source_names (sources_in m)) (memo_found xs g c.args.id)) ∙ ap (λ (s : Seen). source_names (sources_of s.state.memos c.args.id)) c.self.view_is ∙ c.requires.same in
-    let numbers = c.deref.ensures.value ∙ c.in_ok-numbers_now.ensures in
+    let numbers = c.in_ok-numbers_now.ensures in
     let memo = ap (λ ss. memo_made o ss g) ((λ i. paired (names i) (numbers i)) ∙ paired_here xs g rs) in
     let made = memo_made o (map (named_now (memos_of g xs)) rs) g in
     let nodes = c.renew_memo_at.ensures ∙ ap (λ (m : Memo). changed_at (run_node m) c.args.id xs) memo in
@@ -73,7 +73,7 @@ returns-clause-after c =
     let rs = c.args.reads.now in
     let live = computing_here (body_at c.self.inside.nodes.items c.args.id) (sym (ap is_some (progress_found c.self.inside.nodes.items c.args.id)) ∙ ap (λ (s : Seen). is_computing s.state c.args.id) c.self.view_is ∙ c.requires.computing) in
     let names = sym (ap (λ m. source_names (sources_in m)) (memo_found xs g c.args.id)) ∙ ap (λ (s : Seen). source_names (sources_of s.state.memos c.args.id)) c.self.view_is ∙ c.requires.same in
-    let numbers = c.deref.ensures.value ∙ c.in_ok-numbers_now.ensures in
+    let numbers = c.in_ok-numbers_now.ensures in
     let memo = ap (λ ss. memo_made c.args.outcome.now ss g) ((λ i. paired (names i) (numbers i)) ∙ paired_here xs g rs) in
     let made = memo_made c.args.outcome.now (map (named_now (memos_of g xs)) rs) g in
     let nodes = c.renew_memo_at.ensures ∙ ap (λ (m : Memo). changed_at (run_node m) c.args.id xs) memo in
