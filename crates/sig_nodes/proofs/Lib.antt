@@ -8,6 +8,7 @@ pub mod Searches
 mod ReachedSeats
 mod Walks
 pub mod HostUse
+mod ReadOn
 pub mod Shared
 mod Pauses
 mod Gaps

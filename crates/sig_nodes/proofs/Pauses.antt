@@ -20,6 +20,12 @@ held_more (Some p) r f earlier known is e h =
     subst (λ (ks : List Known). IsPaused p.value (tree f) None ks) (ap (λ (ks : List Known). ks ++ more) (sym e) ∙ take-append-drop (length earlier) known)
     (more_is_paused p.value (tree f) None earlier more (subst (λ (x : Recipe). IsHeld (Some p) x earlier) is h))
 
+-- what is held of a formula is held with its recipe
+pub held_with : {Z : Type 0} (held : Option (Box Evaluation Z)) (r : Recipe) (f : Formula) (known : List Known) → r ≡ recipe.Formula f →
+    IsHeldOf held (tree f) known → IsHeld held r known
+held_with None r f known is h = tt
+held_with (Some p) r f known is h = subst (λ (x : Recipe). IsHeld (Some p) x known) (sym is) h
+
 -- what has read nothing stands for the formula whatever is known
 pub new_held : (p : Evaluation) (f : Formula) → IsPaused p (tree f) None [] → (known : List Known) → IsPaused p (tree f) None known
 new_held p f h known = more_is_paused p (tree f) None [] known h

@@ -9,5 +9,6 @@ pub mod Places
 pub mod Search
 pub mod Looks
 pub mod Pauses
+pub mod Reading
 pub mod Gaps
 pub mod Lends

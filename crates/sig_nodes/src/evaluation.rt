@@ -1,8 +1,10 @@
 // The calls of an evaluation.
-ghost use Rattle.std.specs.Prelude.{◌≡◌, ◌<◌, ◌&&◌, not, if◌then◌else◌, [], length, take, true, false, None, Some, IfOk, IfSome, OnOk, is_some, slice_get};
+ghost use Rattle.std.specs.Prelude.{◌≡◌, ◌+◌, ◌<◌, ◌≤◌, ◌&&◌, not, if◌then◌else◌, [], length, take, true, false, None, Some, IfOk, IfSome, OnOk, is_some, slice_get};
 ghost use Rattle.std.specs.List.{All};
 ghost use Rattle.signal_model.specs.Signals.{is_computed, standing};
 ghost use Rattle.signal_model.specs.Memos.{holds_cycle, is_stale, memo_of, source_names, sources_of};
+ghost use Rattle.sig_nodes.specs.declared.answers.Asked.TheVariants.{Ended};
+ghost use Rattle.sig_nodes.specs.Reading.{HasReadOn};
 ghost use Rattle.sig_nodes.specs.Answers.{has_moved, slots_here, IsAnswerHere, IsJudgedAnswer};
 ghost use Rattle.sig_nodes.specs.States.{counted, is_computing, is_given, progress_at, with_kept_run, with_look, with_progress, Becomes, CanWear, GoesOn};
 
@@ -13,6 +15,7 @@ use crate::graph::Graph;
 use crate::id_lists::IdList;
 use crate::links::{copied, kept_list, relink};
 use crate::node::Memo;
+use crate::reading::read_slots;
 use crate::store::{ask_at, begin_at, end_at, keep_memo_at, renew_memo_at};
 use sig_base::{Fault, Known, NoMemory, NodeId, Outcome};
 use std::mem;
@@ -88,6 +91,42 @@ impl Graph {
         self.looked = counted(self.looked);
         let answer = ask_at(self.alloc, &mut self.nodes, id, known, outcome)?;
         Ok(answer)
+    }
+
+    /// Goes on with the evaluation of a computed's formula as long as the slot that it needs next is read without a look below: its signal is
+    /// no computed, or one that is neither being evaluated nor has anything to be settled first, and shows a good value. Each is put behind
+    /// what is known and what was read. Whether the formula came to its end: then its outcome stands in its place. A host formula, a formula
+    /// of many operations, and a slot that isn't read so are left to `recipe`. Each answer that it goes on with is a counted step. What it
+    /// read, that the lists stay as even as they were, the end, the names, the steps and the graph are told apart.
+    pub fn read_on(
+        &mut self,
+        id: NodeId,
+        known: &mut Vec<Known>,
+        reads: &mut Vec<NodeId>,
+        outcome: &mut Outcome,
+    ) -> Result<bool, NoMemory>
+        ensures read { OnOk result (HasReadOn self.old.state id known.old.items reads.old.items known.new.items reads.new.items) }
+        ensures even { length known.new.items + length reads.old.items ≡ length known.old.items + length reads.new.items }
+        ensures ended { IfOk result (λ e. e ≡ true → IsAnswerHere (standing self.old.state.signals id) known.new.items Ended outcome.new) }
+        ensures given { OnOk result (All (λ n. is_given self.old n ≡ true) reads.old.items → All (λ n. is_given self.old n ≡ true) reads.new.items) }
+        ensures steps { IfOk result (λ e. self.new.state.looked + length known.old.items ≤ self.old.state.looked + length known.new.items + (if e then 1 else 0)) }
+        ensures after { OnOk result (Becomes self.old self.new (record self.old.state { looked = self.new.state.looked })) }
+        ensures seats { OnOk result (self.new.seats ≡ self.old.seats) }
+    {
+        let _count = self.nodes.made();
+        let Some(computation) = computation_at(&self.nodes, id) else {
+            return Ok(false);
+        };
+        let ended = read_slots(
+            &self.nodes,
+            &self.marks,
+            computation,
+            known,
+            reads,
+            outcome,
+            &mut self.looked,
+        )?;
+        Ok(ended)
     }
 
     /// Whether a computed doesn't hold `cycle`, and its kept source at a place has another number than the one that was read, or is

@@ -15,6 +15,7 @@ mod marks;
 mod node;
 mod nodes;
 mod queries;
+mod reading;
 mod search;
 mod search_marks;
 mod seats;

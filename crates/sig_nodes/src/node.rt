@@ -12,6 +12,8 @@ ghost use Rattle.sig_nodes.specs.States.{GoesOn};
 ghost use Rattle.sig_nodes.specs.Answers.{expression_of, host_place, IsAnswerOf, IsJudgedAnswer, IsStepAnswer};
 ghost use Rattle.sig_nodes.specs.Computations.{at_generation, paired, recipe_made, renewed};
 ghost use Rattle.sig_nodes.specs.Pauses.{IsHeldOf};
+ghost use Rattle.sig_nodes.specs.Reading.{IsToldOf};
+ghost use Rattle.sig_base.specs.declared.value.Outcome.TheVariants.{Good};
 ghost use Rattle.sig_base.specs.declared.value.Known.{Known};
 ghost use Rattle.sig_formula.specs.Evaluation.{answer_of, step_by};
 ghost use Rattle.signal_model.specs.Recipes.{judged};
@@ -22,7 +24,7 @@ ghost use Rattle.sig_formula.specs.Trees.{tree};
 use crate::answers::{Asked, Recipe};
 use crate::id_lists::IdList;
 use sig_base::{Fault, Known, NoMemory, NodeId, Outcome, Step, Value};
-use sig_formula::{Formula, Paused};
+use sig_formula::{Formula, Paused, Told, told_at_once};
 use signal_model::judged;
 use std::alloc::Global;
 use std::marker::Model;
@@ -175,7 +177,8 @@ pub(crate) struct Computation {
     memo: Option<Memo>,
     computing: bool,
     known: Vec<Known>,
-    // none before the first answer, and for a host formula; it is kept from one run to the next, in a box as it is taken out and put back
+    // none before the first answer by a list of instructions, and for a host formula; it is kept from one run to the next, in a box as it is
+    // taken out and put back
     paused: Option<Box<Paused>>,
 }
 
@@ -311,6 +314,35 @@ impl Computation {
         asks_host(&self.recipe, place)
     }
 
+    /// The good value that it is read as, none where it shows a fault or is being evaluated.
+    #[inline(always)]
+    pub(crate) fn value(&self) -> Option<&Value>
+        ensures calm { IfSome result (λ v. is_some self.now.known ≡ false) }
+        ensures value { IfSome result (λ v. kept_outcome self.now.memo ≡ Some (Good v.now)) }
+    {
+        if self.computing {
+            return None;
+        }
+        match self.kept() {
+            Some(Outcome::Good(value)) => Some(value),
+            _ => None,
+        }
+    }
+
+    /// What is told at once of the recipe by the values known so far: nothing of a host formula.
+    #[inline(always)]
+    pub(crate) fn told(&self, known: &[Known], outcome: &mut Outcome) -> Result<Told, NoMemory>
+        ensures { IfOk result (λ t. IsToldOf self.now.recipe known.now t outcome.new) }
+    {
+        match &self.recipe {
+            Recipe::Formula(formula) => {
+                let told = told_at_once(formula, known, outcome)?;
+                Ok(told)
+            }
+            Recipe::Host(_) => Ok(Told::Open),
+        }
+    }
+
     /// The signals that the slots stand for.
     pub(crate) fn slots(&self) -> &[NodeId]
         ensures { result.now ≡ self.now.recipe.slots }
@@ -348,13 +380,12 @@ impl Computation {
         ensures answer { IfOk result (λ a. IsAnswerOf self.old.recipe known.now a outcome.new) }
         ensures judged { IfOk result (λ a. IsJudgedAnswer (length self.old.recipe.slots) known.now a) }
     {
-        let held = self.paused.take();
+        let mut held = self.paused.take();
         note_rest(&mut self.known, known)?;
         match &self.recipe {
             Recipe::Formula(formula) => {
-                let mut paused = begun(alloc, formula, held)?;
-                let slot = advanced(alloc, formula, &mut paused, known, outcome)?;
-                self.paused = Some(paused);
+                let slot = asked(alloc, formula, &mut held, known, outcome)?;
+                self.paused = held;
                 Ok(judged_answer(self.slots.len(), known, slot, outcome))
             }
             Recipe::Host(place) => Ok(Asked::Host(*place)),
@@ -488,6 +519,45 @@ fn advanced(
 {
     let slot = paused.advance(alloc, formula, None, known, outcome)?;
     Ok(slot)
+}
+
+// Goes on with an evaluation by the list of the formula's instructions, which is begun where none is held: the slot that the formula needs,
+// or else what it comes to stands in a place.
+#[inline(never)]
+fn asked_by_list(
+    alloc: Global,
+    formula: &Formula,
+    held: &mut Option<Box<Paused>>,
+    known: &[Known],
+    outcome: &mut Outcome,
+) -> Result<Option<u32>, NoMemory>
+    requires { IsHeldOf held.old (tree formula.now) known.now }
+    ensures answer { IfOk result (λ slot. step_by slot outcome.new ≡ answer_of (tree formula.now) None known.now) }
+    ensures held { OnOk result (IsHeldOf held.new (tree formula.now) known.now) }
+{
+    let mut paused = begun(alloc, formula, held.take())?;
+    let slot = advanced(alloc, formula, &mut paused, known, outcome)?;
+    *held = Some(paused);
+    Ok(slot)
+}
+
+// The same, where a formula of few operations needs no list.
+fn asked(
+    alloc: Global,
+    formula: &Formula,
+    held: &mut Option<Box<Paused>>,
+    known: &[Known],
+    outcome: &mut Outcome,
+) -> Result<Option<u32>, NoMemory>
+    requires { IsHeldOf held.old (tree formula.now) known.now }
+    ensures answer { IfOk result (λ slot. step_by slot outcome.new ≡ answer_of (tree formula.now) None known.now) }
+    ensures held { OnOk result (IsHeldOf held.new (tree formula.now) known.now) }
+{
+    match told_at_once(formula, known, outcome)? {
+        Told::Slot(slot) => Ok(Some(slot)),
+        Told::Ended => Ok(None),
+        Told::Open => asked_by_list(alloc, formula, held, known, outcome),
+    }
 }
 
 // A step that was judged, as an answer: an outcome goes to its place.
