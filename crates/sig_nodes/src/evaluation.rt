@@ -129,6 +129,23 @@ impl Graph {
         Ok(ended)
     }
 
+    /// Changes three lists, for what is known, read and visited in a settling, for the graph's own, which are empty and have the room of those
+    /// that were left there before. It takes no memory.
+    pub fn swap_lists(
+        &mut self,
+        known: &mut Vec<Known>,
+        reads: &mut Vec<NodeId>,
+        visited: &mut Vec<NodeId>,
+    )
+        ensures known { known.new.items ≡ [] }
+        ensures reads { reads.new.items ≡ [] }
+        ensures visited { visited.new.items ≡ [] }
+        ensures same { self.new ≡ self.old }
+    {
+        let _count = self.nodes.made();
+        self.spares.swap(known, reads, visited);
+    }
+
     /// Whether a computed doesn't hold `cycle`, and its kept source at a place has another number than the one that was read, or is
     /// computing. Where it doesn't hold `cycle` it is a counted step.
     pub fn compare(&mut self, id: NodeId, place: usize) -> bool

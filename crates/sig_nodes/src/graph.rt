@@ -16,6 +16,7 @@ use crate::finds::Finds;
 use crate::node::{Body, Computation, Node};
 use crate::nodes::Nodes;
 use crate::seats::Seats;
+use crate::spares::Spares;
 use crate::store::{rewire_at, set_value_at};
 use crate::trail::Trail;
 use sig_base::{MOST_NODES, NoMemory, NodeId, Value};
@@ -38,6 +39,7 @@ pub struct Graph {
     pub(crate) trail: Trail,
     // where the numbers of a run are put before they are kept
     pub(crate) room: Vec<Option<u128>>,
+    pub(crate) spares: Spares,
 }
 
 impl Drop for Graph {
@@ -54,6 +56,7 @@ impl Drop for Graph {
             reached: _,
             trail: _,
             room: _,
+            spares: _,
         } = self;
     }
 }
@@ -94,6 +97,7 @@ impl Graph {
             reached: Reached::new(alloc)?,
             trail: Trail::new(alloc)?,
             room: Vec::new(alloc),
+            spares: Spares::new(alloc),
         })
     }
 

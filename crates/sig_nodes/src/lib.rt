@@ -19,6 +19,7 @@ mod reading;
 mod search;
 mod search_marks;
 mod seats;
+mod spares;
 mod store;
 mod trail;
 

@@ -1,0 +1,50 @@
+// Lists that keep their room from one settling to the next.
+ghost use Rattle.std.specs.Prelude.{◌≡◌, []};
+
+use sig_base::{Known, NodeId};
+use std::alloc::Global;
+use std::mem;
+
+/// Three lists for what is learnt meanwhile: values that are known, signals that were read, and signals that were visited.
+#[derive(Drop)]
+pub(crate) struct Spares {
+    known: Vec<Known>,
+    reads: Vec<NodeId>,
+    visited: Vec<NodeId>,
+}
+
+// Changes a list for another one, which is empty then.
+fn exchange<T: Drop>(spare: &mut Vec<T>, list: &mut Vec<T>)
+    ensures { list.new.items ≡ [] }
+{
+    mem::swap(spare, list);
+    spare.clear();
+    list.clear();
+}
+
+impl Spares {
+    /// Lists without room.
+    pub(crate) fn new(alloc: Global) -> Spares {
+        Spares {
+            known: Vec::new(alloc),
+            reads: Vec::new(alloc),
+            visited: Vec::new(alloc),
+        }
+    }
+
+    /// Changes three lists for these, which are empty then.
+    pub(crate) fn swap(
+        &mut self,
+        known: &mut Vec<Known>,
+        reads: &mut Vec<NodeId>,
+        visited: &mut Vec<NodeId>,
+    )
+        ensures known { known.new.items ≡ [] }
+        ensures reads { reads.new.items ≡ [] }
+        ensures visited { visited.new.items ≡ [] }
+    {
+        exchange(&mut self.known, known);
+        exchange(&mut self.reads, reads);
+        exchange(&mut self.visited, visited);
+    }
+}
