@@ -6,7 +6,7 @@ use Rattle.signal_model.specs.Memos.{source_names, sources_in}
 use Rattle.mark_laws.specs.Marked.{relinked}
 use Rattle.sig_nodes.specs.declared.node.Node.{Node}
 use Rattle.sig_nodes.specs.Nodes.{cells_of, computeds_of, body_at, change_at, seat_at, is_computed_body, is_live_body, memo_body, slots_body, state_of, FewSlotsBody}
-use Rattle.sig_nodes.specs.Search.{found_at, HasDue}
+use Rattle.sig_nodes.specs.Search.{found_at, AreSeated, HasDue}
 use Rattle.sig_nodes.specs.Seats.{Seating, holder}
 use Rattle.sig_nodes.specs.States.{State, Seen}
 use Rattle.sig_nodes.specs.StateMarks.{AreStateMarks}
@@ -52,6 +52,13 @@ pub record KeepsMarks (nodes : List Node) (generation : ℕ) (t : MarkTable) : T
 pub record KeepsFound (nodes : List Node) (generation worn : ℕ) (found : List ℕ) : Type 0 where
   pub past : (s : ℕ) → found_at found s ≤ worn
   pub due : (n : ℕ) → is_computed_body (body_at nodes n) ≡ true → found_at found (seat_at nodes n) ≡ worn → HasDue nodes generation n
+
+-- what a search below n needs of them: n is a computed, marks are true, each has its own seat, and what was found is so
+pub record CanSearch (nodes : List Node) (generation worn : ℕ) (t : MarkTable) (found : List ℕ) (n : ℕ) : Type 0 where
+  pub live : is_computed_body (body_at nodes n) ≡ true
+  pub marks : KeepsMarks nodes generation t
+  pub seats : AreSeated nodes MOST_NODES
+  pub kept : KeepsFound nodes generation worn found
 
 -- all of them hold
 pub record IsGraph (nodes : List Node) (seats : Seating) (generation worn : ℕ) (t : MarkTable) (finds : List ℕ) : Type 0 where

@@ -6,7 +6,7 @@ ghost use Rattle.signal_model.specs.Memos.{source_names, sources_in};
 ghost use Rattle.signal_model.specs.Marks.{mark_of};
 ghost use Rattle.sig_nodes.specs.Looks.{is_clean_mark};
 ghost use Rattle.sig_nodes.specs.Nodes.{body_at, is_computed_body, memo_body, memos_of, seat_at, signals_of};
-ghost use Rattle.sig_nodes.specs.Places.{KeepsFound, KeepsMarks};
+ghost use Rattle.sig_nodes.specs.Places.{CanSearch, KeepsFound};
 ghost use Rattle.sig_nodes.specs.Search.{first_new, is_due_at, is_new, AreDue, AreSeated, HasDue, IsWay, Reaches};
 
 use crate::bodies::{seat_at, sources_at};
@@ -81,6 +81,7 @@ fn is_told(nodes: &Nodes, generation: u128, worn: u128, node: &Node, finds: &Fin
 }
 
 // Goes to a computed, whose seat is reached from then on.
+#[inline(always)]
 fn go_to(id: NodeId, seat: usize, reached: &mut Reached, trail: &mut Trail)
     requires inside { seat < MOST_NODES }
     requires fresh { is_in seat reached.old ≡ false }
@@ -188,7 +189,7 @@ fn begin(nodes: &Nodes, id: NodeId, reached: &mut Reached, trail: &mut Trail)
 }
 
 // Whether something below a computed that needn't run itself must run. What it found is noted by seat, with the count of changes at which it
-// did. As it goes on from what is asked of a search, and says what a search says, its clauses are those of one.
+// did.
 fn finds_below(
     nodes: &Nodes,
     generation: u128,
@@ -199,11 +200,8 @@ fn finds_below(
     trail: &mut Trail,
     finds: &mut Finds,
 ) -> bool
-    requires live { is_computed_body (body_at nodes.now.items id) ≡ true }
+    requires can { CanSearch nodes.now.items generation worn marks.now finds.old id }
     requires calm { is_due_at nodes.now.items generation id ≡ false }
-    requires marks { KeepsMarks nodes.now.items generation marks.now }
-    requires seats { AreSeated nodes.now.items MOST_NODES }
-    requires kept { KeepsFound nodes.now.items generation worn finds.old }
     ensures mark { not result ≡ is_clean_mark (mark_of (signals_of nodes.now.items) (memos_of generation nodes.now.items) id) }
     ensures reached { result ≡ false → Reaches nodes.now.items marks.now.marked generation reached.new [] }
     ensures kept { KeepsFound nodes.now.items generation worn finds.new }
@@ -217,8 +215,7 @@ fn finds_below(
 }
 
 /// Whether a computed, or something below it, must run. Where nothing must, all seats that the search came to are reached afterwards. What
-/// it found is noted by seat, with the count of changes at which it did, and isn't searched for anew until the next change. What it reached
-/// and what it noted are told apart from its answer, and what it needs of the graph's parts is asked for by part.
+/// it found is noted by seat, with the count of changes at which it did, and isn't searched for anew until the next change.
 pub(crate) fn finds_due(
     nodes: &Nodes,
     generation: u128,
@@ -229,10 +226,7 @@ pub(crate) fn finds_due(
     trail: &mut Trail,
     finds: &mut Finds,
 ) -> bool
-    requires live { is_computed_body (body_at nodes.now.items id) ≡ true }
-    requires marks { KeepsMarks nodes.now.items generation marks.now }
-    requires seats { AreSeated nodes.now.items MOST_NODES }
-    requires kept { KeepsFound nodes.now.items generation worn finds.old }
+    requires { CanSearch nodes.now.items generation worn marks.now finds.old id }
     ensures mark { not result ≡ is_clean_mark (mark_of (signals_of nodes.now.items) (memos_of generation nodes.now.items) id) }
     ensures reached { result ≡ false → Reaches nodes.now.items marks.now.marked generation reached.new [] }
     ensures kept { KeepsFound nodes.now.items generation worn finds.new }

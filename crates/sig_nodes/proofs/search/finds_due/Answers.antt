@@ -8,3 +8,9 @@ returns-then-is_due-clause-mark c =
 
 pub finds_below-requires-clause-calm : goal.finds_below-requires-clause-calm
 finds_below-requires-clause-calm c = sym c.is_due.ensures ∙ c.if-is_due.false
+
+pub finds_below-requires-clause-can : goal.finds_below-requires-clause-can
+finds_below-requires-clause-can c = c.requires
+
+pub returns-then-is_due-clause-kept : goal.returns-then-is_due-clause-kept
+returns-then-is_due-clause-kept c = c.requires.kept

@@ -9,13 +9,13 @@ use Rattle.sig_nodes.proofs.KeptMarks.{same_table, searched_kept}
 use Rattle.sig_nodes.proofs.Searches.{seats_apart}
 use Rattle.sig_nodes.proofs.graph.Graph.is_searched_clean.Goals as goal
 
-pub finds_due-requires-clause-live : goal.finds_due-requires-clause-live
-finds_due-requires-clause-live c =
-    (computed_here c.self.inside.nodes.items c.args.id (ap (λ (s : Seen). is_computed (standing s.state.signals c.args.id)) c.self.view_is ∙ c.requires))
-
-pub finds_due-requires-clause-seats : goal.finds_due-requires-clause-seats
-finds_due-requires-clause-seats c =
-    (seats_apart c.self.inside.nodes.items c.self.inside.seats c.self.inside.generation c.self.inside.worn c.self.invariant.fields)
+pub finds_due-requires : goal.finds_due-requires
+finds_due-requires c = record {
+  live = computed_here c.self.inside.nodes.items c.args.id (ap (λ (s : Seen). is_computed (standing s.state.signals c.args.id)) c.self.view_is ∙ c.requires);
+  marks = c.self.invariant.marks;
+  seats = seats_apart c.self.inside.nodes.items c.self.inside.seats c.self.inside.generation c.self.inside.worn c.self.invariant.fields;
+  kept = c.self.invariant.found;
+}
 
 pub unmark_reached-requires-clause-stands : goal.unmark_reached-requires-clause-stands
 unmark_reached-requires-clause-stands c = λ seat n has. c.self.invariant.marks.standing.live n (c.self.invariant.fields.living seat n has).0
