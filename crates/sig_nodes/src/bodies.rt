@@ -280,6 +280,7 @@ fn number_of(node: &Node) -> Option<u128>
 }
 
 /// The present change numbers of these, in place of what stood in a list.
+#[inline(always)]
 pub(crate) fn numbers_now(
     numbers: &mut Vec<Option<u128>>,
     nodes: &Nodes,

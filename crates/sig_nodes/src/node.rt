@@ -172,10 +172,11 @@ pub(crate) fn is_cycle(outcome: &Outcome) -> bool
 /// formula stands by them.
 #[derive(Drop)]
 pub(crate) struct Computation {
-    recipe: Recipe,
-    slots: Vec<NodeId>,
+    // what others look at stands together in front, as nodes are many and each is looked at often
     memo: Option<Memo>,
     computing: bool,
+    recipe: Recipe,
+    slots: Vec<NodeId>,
     known: Vec<Known>,
     // none before the first answer by a list of instructions, and for a host formula; it is kept from one run to the next, in a box as it is
     // taken out and put back
@@ -211,10 +212,10 @@ impl Computation {
         ensures { result ≡ record { recipe = recipe_made (expression_of recipe) slots.items; memo = None; known = None } }
     {
         Computation {
-            recipe,
-            slots,
             memo: None,
             computing: false,
+            recipe,
+            slots,
             known: Vec::new(alloc),
             paused: None,
         }
