@@ -1,5 +1,5 @@
 -- Rows and fields that are looked up.
-use Rattle.std.proofs.Common.{◌≡◌, ℕ, suc, ◌+◌, ◌<◌, Bool, true, false, not, get_or, Option, List, [], ◌∷◌, length, drop, map, refl, sym, ◌∙◌, ap, add-one, arith, inl, inr}
+use Rattle.std.proofs.Common.{◌≡◌, ◌≢◌, ℕ, suc, ◌+◌, ◌<◌, Bool, true, false, not, get_or, Option, List, [], ◌∷◌, length, drop, map, refl, sym, ◌∙◌, ap, add-one, arith, inl, inr}
 use Rattle.std.specs.Prelude.{nat_lt, MatchOption}
 use Rattle.std.specs.List.{list_any, position, position_or_len, AllByRecursion, IsDistinct}
 use Rattle.std.specs.Str.{bytes_eq}
@@ -16,6 +16,13 @@ use Rattle.sig_rows.specs.Found.{IsFirstPlace, IsRowOf}
 -- the key of a row that has it
 pub key_is : (key : List ℕ) (r : Row) → has_key key r ≡ true → r.key ≡ key
 key_is key r h = (bytes_eq-Decides r.key key).0 h
+
+-- where texts differ at a place, they aren't the same
+pub other_last : (n m : List ℕ) (i d : ℕ) → get_or n i d ≢ get_or m i d → bytes_eq n m ≡ false
+other_last n m i d h = elim (cases_Bool (bytes_eq n m)) [
+  | inl e ↦ absurd (h (ap (λ (l : List ℕ). get_or l i d) ((bytes_eq-Decides n m).0 e)))
+  | inr e ↦ e
+]
 
 -- where all keys differ from one, no row has it
 pub none_more : (key : List ℕ) (rows : List Row) → AllByRecursion (λ k. bytes_eq key k ≡ false) (keys_of rows) → (row_of key rows ≡ []) × (without key rows ≡ rows)

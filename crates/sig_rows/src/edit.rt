@@ -6,7 +6,7 @@ ghost use Rattle.sig_rows.specs.Faults.{insert_fault, move_fault, put_fault, rem
 
 use crate::RowFault;
 use crate::refusals::{insert_fault, remove_fault};
-use crate::row::{changed, copies, field_place, other_marks, row_of, row_place, scalars};
+use crate::row::{changed, copies, field_place, others, row_of, row_place, scalars};
 use sig_base::{Name, NoMemory, Row, Rows, Scalar, Scalars, Text};
 use std::alloc::Global;
 
@@ -26,7 +26,9 @@ fn with_row(alloc: Global, rows: &Rows, place: usize, row: Row) -> Result<Rows, 
 {
     let mut list = copies(alloc, rows.rows())?;
     list.insert(place, row)?;
-    rows.with_rows(alloc, list)
+    let mut now = rows.with_rows(alloc, list)?;
+    now.note_changed(place);
+    Ok(now)
 }
 
 /// Puts a row with these values so that it stands at a place, at most the number of rows. It is refused, in this order, where
@@ -63,8 +65,8 @@ pub fn insert(
 fn without(alloc: Global, rows: &Rows, key: &Text) -> Result<Rows, NoMemory>
     ensures { IfOk result (λ r. r ≡ record { fields = rows.now.fields; rows = without key.now rows.now.rows }) }
 {
-    let marks = other_marks(alloc, rows.rows(), key)?;
-    rows.keep_by(alloc, &marks)
+    let list = others(alloc, rows.rows(), key)?;
+    rows.with_rows(alloc, list)
 }
 
 /// Takes the row with this key out; refused where no row has it.

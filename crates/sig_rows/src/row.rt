@@ -1,20 +1,47 @@
 // Rows and their parts, looked up and copied.
-ghost use Rattle.std.specs.Prelude.{◌≡◌, ◌<◌, length, All, IfOk, MatchOption, Some, false, map, not, slice_set};
+ghost use Rattle.std.specs.Prelude.{◌≡◌, ◌<◌, length, All, IfOk, MatchOption, Some, false, true, slice_set};
 ghost use Rattle.std.specs.List.{list_any, position, slice_get, IsDistinct};
 ghost use Rattle.std.specs.Str.{bytes_eq};
 ghost use Rattle.sig_base.specs.Tables.{keys_of};
 ghost use Rattle.sig_base.specs.declared.rows.Row.{Row as ARow};
-ghost use Rattle.sig_rows.specs.Edits.{has_key, with_value};
+ghost use Rattle.sig_rows.specs.Edits.{has_key, with_value, without};
 ghost use Rattle.sig_rows.specs.Found.{IsFieldPlace, IsRowOf, IsRowPlace};
 
 use sig_base::{Name, NoMemory, Row, Scalar, Scalars, Text};
 use std::alloc::Global;
 
+// Whether texts differ in how many bytes they have or in their last ones, as keys that aren't one mostly do.
+#[inline(always)]
+#[tactic(auto, using(crate::proofs::Keys::other_last, sig_base::proofs::Lengths::unlike))]
+fn differ_at_end(one: &[u8], other: &[u8]) -> bool
+    ensures { result ≡ true → bytes_eq one.now other.now ≡ false }
+{
+    if one.len() != other.len() {
+        return true;
+    }
+    if one.is_empty() {
+        return false;
+    }
+    let last = one.len() - 1;
+    one[last] != other[last]
+}
+
+// Whether this is the row's key.
+#[inline(always)]
+fn is_key(row: &Row, key: &Text) -> bool
+    ensures { result ≡ has_key key.now row.now }
+{
+    if differ_at_end(row.key.as_str().as_bytes(), key.as_str().as_bytes()) {
+        return false;
+    }
+    row.key == *key
+}
+
 /// Whether a row has this key.
 pub fn has_key(rows: &[Row], key: &Text) -> bool
     ensures { result ≡ list_any (has_key key.now) rows.now }
 {
-    rows.iter().any(|row| row.key == *key)
+    rows.iter().any(|row| is_key(row, key))
 }
 
 /// Whether a field has this name.
@@ -30,7 +57,7 @@ pub fn row_of<'a>(rows: &'a [Row], key: &Text) -> Option<&'a Row>
     ensures { MatchOption result (list_any (has_key key.now) rows.now ≡ false) (λ row. IsRowOf key.now rows.now row.now) }
 {
     for row in rows {
-        if row.key == *key {
+        if is_key(row, key) {
             return Some(row);
         }
     }
@@ -41,7 +68,7 @@ pub fn row_of<'a>(rows: &'a [Row], key: &Text) -> Option<&'a Row>
 fn first_row(rows: &[Row], key: &Text) -> Option<usize>
     ensures { result ≡ position (has_key key.now) rows.now }
 {
-    rows.iter().position(|row| row.key == *key)
+    rows.iter().position(|row| is_key(row, key))
 }
 
 /// The place of the row with this key.
@@ -67,22 +94,24 @@ pub fn field_place(fields: &[Name], name: &Name) -> Option<usize>
     found
 }
 
-/// Of each row, whether it has another key.
-pub fn other_marks(alloc: Global, rows: &[Row], key: &Text) -> Result<Vec<bool>, NoMemory>
-    ensures { IfOk result (λ v. v.items ≡ map (λ r. not (has_key key.now r)) rows.now) }
+/// Copies of the rows that have another key, which share their values.
+pub fn others(alloc: Global, rows: &[Row], key: &Text) -> Result<Vec<Row>, NoMemory>
+    ensures { IfOk result (λ v. v.items ≡ without key.now rows.now) }
 {
-    let mut marks = Vec::with_capacity(alloc, rows.len())?;
+    let mut out = Vec::with_capacity(alloc, rows.len())?;
     for row in rows {
-        marks.push(row.key != *key)?;
+        if !is_key(row, key) {
+            out.push(row.copy()?)?;
+        }
     }
-    Ok(marks)
+    Ok(out)
 }
 
-/// Copies of these rows, which share their values.
+/// Copies of these rows, which share their values, with room for one more.
 pub fn copies(alloc: Global, rows: &[Row]) -> Result<Vec<Row>, NoMemory>
     ensures { IfOk result (λ v. v.items ≡ rows.now) }
 {
-    let mut out = Vec::with_capacity(alloc, rows.len())?;
+    let mut out = Vec::with_capacity(alloc, rows.len().saturating_add(1))?;
     for row in rows {
         out.push(row.copy()?)?;
     }
