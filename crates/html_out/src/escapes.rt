@@ -5,9 +5,28 @@ ghost use Rattle.html_out.specs.Html.{attribute, escaped, escaped_value, in_text
 
 use sig_base::NoMemory;
 
-fn put(out: &mut Vec<u8>, bytes: &[u8]) -> Result<(), NoMemory>
+// So many bytes are put one by one, which takes less than to copy them at once.
+const FEW: usize = 16;
+
+// Appends bytes one by one.
+fn put_few(out: &mut Vec<u8>, bytes: &[u8]) -> Result<(), NoMemory>
     ensures { OnOk result (out.new.items ≡ out.old.items ++ bytes.now) }
 {
+    out.reserve(bytes.len())?;
+    for byte in bytes {
+        out.push_reserved(*byte);
+    }
+    Ok(())
+}
+
+/// Appends bytes: few one by one, more at once.
+pub fn put_bytes(out: &mut Vec<u8>, bytes: &[u8]) -> Result<(), NoMemory>
+    ensures { OnOk result (out.new.items ≡ out.old.items ++ bytes.now) }
+{
+    if bytes.len() <= FEW {
+        put_few(out, bytes)?;
+        return Ok(());
+    }
     out.extend_from_slice(bytes)?;
     Ok(())
 }
@@ -16,13 +35,13 @@ fn put_char(out: &mut Vec<u8>, c: char) -> Result<(), NoMemory>
     ensures { OnOk result (out.new.items ≡ out.old.items ++ in_text c) }
 {
     match c {
-        '&' => put(out, b"&amp;"),
-        '\u{a0}' => put(out, b"&nbsp;"),
-        '<' => put(out, b"&lt;"),
-        '>' => put(out, b"&gt;"),
+        '&' => put_bytes(out, b"&amp;"),
+        '\u{a0}' => put_bytes(out, b"&nbsp;"),
+        '<' => put_bytes(out, b"&lt;"),
+        '>' => put_bytes(out, b"&gt;"),
         _ => {
             let mut buffer = [0; 4];
-            put(out, c.encode_utf8(&mut buffer).as_bytes())
+            put_bytes(out, c.encode_utf8(&mut buffer).as_bytes())
         }
     }
 }
@@ -31,7 +50,7 @@ fn put_value_char(out: &mut Vec<u8>, c: char) -> Result<(), NoMemory>
     ensures { OnOk result (out.new.items ≡ out.old.items ++ in_value c) }
 {
     if c == '"' {
-        put(out, b"&quot;")
+        put_bytes(out, b"&quot;")
     } else {
         put_char(out, c)
     }
@@ -56,7 +75,7 @@ pub fn put_text(out: &mut Vec<u8>, text: &str) -> Result<(), NoMemory>
     ensures { OnOk result (out.new.items ≡ out.old.items ++ escaped text.now) }
 {
     if are_plain(text.as_bytes()) {
-        return put(out, text.as_bytes());
+        return put_bytes(out, text.as_bytes());
     }
     put_text_chars(out, text)
 }
@@ -76,7 +95,7 @@ fn put_value(out: &mut Vec<u8>, value: &str) -> Result<(), NoMemory>
     ensures { OnOk result (out.new.items ≡ out.old.items ++ escaped_value value.now) }
 {
     if are_plain(value.as_bytes()) {
-        return put(out, value.as_bytes());
+        return put_bytes(out, value.as_bytes());
     }
     put_value_chars(out, value)
 }
@@ -96,9 +115,9 @@ fn put_value_chars(out: &mut Vec<u8>, value: &str) -> Result<(), NoMemory>
 pub fn put_attr(out: &mut Vec<u8>, name: &str, value: &str) -> Result<(), NoMemory>
     ensures { OnOk result (out.new.items ≡ out.old.items ++ attribute name.now value.now) }
 {
-    put(out, b" ")?;
-    put(out, name.as_bytes())?;
-    put(out, b"=\"")?;
+    put_bytes(out, b" ")?;
+    put_bytes(out, name.as_bytes())?;
+    put_bytes(out, b"=\"")?;
     put_value(out, value)?;
-    put(out, b"\"")
+    put_bytes(out, b"\"")
 }

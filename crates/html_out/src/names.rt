@@ -1,16 +1,16 @@
 // Which names there are, and which of them serialise in a way of their own.
-ghost use Rattle.std.specs.Prelude.{◌≡◌};
+ghost use Rattle.std.specs.Prelude.{◌≡◌, ◌<◌, length};
 ghost use Rattle.html_out.specs.Html.{good_name, is_raw, is_void};
 
 use sig_base::{MOST_TAG, is_tag};
 
-/// Whether an element of this name has neither children nor an end tag when it is serialised (WHATWG HTML, serialising fragments).
+// Whether an element of a name of more than two letters has neither children nor an end tag.
 #[tactic(auto, using(sig_base::proofs::Lengths::unlike), unfolding(crate::specs::Html::is_void))]
-pub fn is_void(name: &str) -> bool
+fn is_longer_void(name: &str) -> bool
+    requires { 2 < length name.now }
     ensures { result ≡ is_void name.now }
 {
     match name.len() {
-        2 => matches!(name.as_bytes(), b"br" | b"hr"),
         3 => matches!(name, "col" | "img" | "wbr"),
         4 => matches!(name, "area" | "base" | "link" | "meta"),
         5 => matches!(name, "embed" | "input" | "track" | "frame" | "param"),
@@ -19,6 +19,18 @@ pub fn is_void(name: &str) -> bool
         8 => name == "basefont",
         _ => false,
     }
+}
+
+/// Whether an element of this name has neither children nor an end tag when it is serialised (WHATWG HTML, serialising fragments).
+#[inline]
+#[tactic(auto, using(sig_base::proofs::Lengths::unlike), unfolding(crate::specs::Html::is_void))]
+pub fn is_void(name: &str) -> bool
+    ensures { result ≡ is_void name.now }
+{
+    if name.len() <= 2 {
+        return matches!(name.as_bytes(), b"br" | b"hr");
+    }
+    is_longer_void(name)
 }
 
 /// Whether the texts in an element of this name are written as they are (WHATWG HTML, serialising fragments, scripting disabled).
