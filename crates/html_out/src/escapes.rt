@@ -1,5 +1,5 @@
 // Texts and attribute values, escaped.
-ghost use Rattle.std.specs.Prelude.{◌≡◌, ◌++◌, OnOk, codes};
+ghost use Rattle.std.specs.Prelude.{◌≡◌, ◌++◌, IfOk, OnOk, codes, false, true};
 ghost use Rattle.std.specs.List.{list_all};
 ghost use Rattle.html_out.specs.Html.{attribute, escaped, escaped_value, in_text, in_value, is_plain};
 
@@ -62,11 +62,22 @@ fn is_plain(byte: u8) -> bool
     byte.is_ascii() && byte != b'"' && byte != b'&' && byte != b'<' && byte != b'>'
 }
 
-// Whether each byte is a character that is written as it is, so that all can be put at once.
-fn are_plain(bytes: &[u8]) -> bool
-    ensures { result ≡ list_all is_plain bytes.now }
+// Appends bytes where each is a character that is written as it is; whether they were appended.
+fn put_plain(out: &mut Vec<u8>, bytes: &[u8]) -> Result<bool, NoMemory>
+    ensures plain { IfOk result (λ all. all ≡ true → list_all is_plain bytes.now ≡ true) }
+    ensures all { IfOk result (λ all. all ≡ true → out.new.items ≡ out.old.items ++ bytes.now) }
+    ensures none { IfOk result (λ all. all ≡ false → out.new.items ≡ out.old.items) }
 {
-    bytes.iter().all(|byte| is_plain(*byte))
+    let count = out.len();
+    out.reserve(bytes.len())?;
+    for byte in bytes {
+        if !is_plain(*byte) {
+            out.truncate(count);
+            return Ok(false);
+        }
+        out.push_reserved(*byte);
+    }
+    Ok(true)
 }
 
 /// Appends the text, escaped as in an element (WHATWG HTML, escaping a string).
@@ -74,8 +85,9 @@ fn are_plain(bytes: &[u8]) -> bool
 pub fn put_text(out: &mut Vec<u8>, text: &str) -> Result<(), NoMemory>
     ensures { OnOk result (out.new.items ≡ out.old.items ++ escaped text.now) }
 {
-    if are_plain(text.as_bytes()) {
-        return put_bytes(out, text.as_bytes());
+    let plain = put_plain(out, text.as_bytes())?;
+    if plain {
+        return Ok(());
     }
     put_text_chars(out, text)
 }
@@ -94,8 +106,9 @@ fn put_text_chars(out: &mut Vec<u8>, text: &str) -> Result<(), NoMemory>
 fn put_value(out: &mut Vec<u8>, value: &str) -> Result<(), NoMemory>
     ensures { OnOk result (out.new.items ≡ out.old.items ++ escaped_value value.now) }
 {
-    if are_plain(value.as_bytes()) {
-        return put_bytes(out, value.as_bytes());
+    let plain = put_plain(out, value.as_bytes())?;
+    if plain {
+        return Ok(());
     }
     put_value_chars(out, value)
 }
