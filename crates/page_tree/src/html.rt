@@ -6,26 +6,9 @@ ghost use Rattle.page_model.specs.Html.{characters, closing, element, html_in, o
 ghost use Rattle.page_tree.specs.Rows.{build, look};
 
 use crate::table::{Label, Node, find_near};
-use html_out::{is_raw, is_void, put_attr, put_text};
+use html_out::{is_raw, is_void, put_attr, put_bytes, put_text};
 use indexmap::IndexMap;
 use sig_base::{NoMemory, Text};
-
-fn put(out: &mut Vec<u8>, bytes: &[u8]) -> Result<(), NoMemory>
-    ensures { OnOk result (out.new.items ≡ out.old.items ++ bytes.now) }
-{
-    out.extend_from_slice(bytes)?;
-    Ok(())
-}
-
-// The same byte by byte, which takes less where they are few.
-fn put_few(out: &mut Vec<u8>, bytes: &[u8]) -> Result<(), NoMemory>
-    ensures { OnOk result (out.new.items ≡ out.old.items ++ bytes.now) }
-{
-    for byte in bytes {
-        out.push(*byte)?;
-    }
-    Ok(())
-}
 
 fn put_attributes(out: &mut Vec<u8>, attributes: &[(Text, Text)]) -> Result<(), NoMemory>
     ensures { OnOk result (out.new.items ≡ out.old.items ++ flat_map (λ (a : List ℕ × List ℕ). attribute a.0 a.1) attributes.now) }
@@ -40,7 +23,7 @@ fn put_opening(out: &mut Vec<u8>, name: &str, attributes: &[(Text, Text)]) -> Re
     ensures { OnOk result (out.new.items ≡ out.old.items ++ opening name.now attributes.now) }
 {
     out.push(b'<')?;
-    put_few(out, name.as_bytes())?;
+    put_bytes(out, name.as_bytes())?;
     put_attributes(out, attributes)?;
     out.push(b'>')?;
     Ok(())
@@ -51,7 +34,7 @@ fn put_closing(out: &mut Vec<u8>, name: &str) -> Result<(), NoMemory>
 {
     out.push(b'<')?;
     out.push(b'/')?;
-    put_few(out, name.as_bytes())?;
+    put_bytes(out, name.as_bytes())?;
     out.push(b'>')?;
     Ok(())
 }
@@ -61,7 +44,7 @@ fn put_characters(out: &mut Vec<u8>, text: &str, raw: bool) -> Result<(), NoMemo
     ensures { OnOk result (out.new.items ≡ out.old.items ++ characters raw text.now) }
 {
     if raw {
-        put(out, text.as_bytes())
+        put_bytes(out, text.as_bytes())
     } else {
         put_text(out, text)
     }

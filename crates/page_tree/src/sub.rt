@@ -75,7 +75,7 @@ fn element(alloc: Global, name: &Text, attributes: &[(Text, Text)]) -> Result<La
 fn numbers_of(alloc: Global, subs: &[Sub]) -> Result<Vec<u64>, NoMemory>
     ensures { IfOk result (λ ns. ns.items ≡ siblings (side_by_side (map sub_tree subs.now))) }
 {
-    let mut numbers = Vec::new(alloc);
+    let mut numbers = Vec::with_capacity(alloc, subs.len())?;
     for sub in subs {
         numbers.push(sub.number())?;
     }
