@@ -7,6 +7,7 @@ mod limits;
 mod name;
 mod print;
 mod rows;
+mod same;
 mod scalar;
 mod text;
 mod value;

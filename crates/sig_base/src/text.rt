@@ -6,6 +6,7 @@ ghost use Rattle.std.specs.Cmp.Rules.{comparing, hashing};
 ghost use Rattle.std.proofs.Common.{rules};
 ghost use Rattle.sig_base.specs.declared.text.TextFault.TheVariants as fault;
 
+use crate::same::same_bytes;
 use crate::{MOST_TEXT, NoMemory};
 use std::alloc::{AllocError, Global};
 use std::hash::{Hash, Hasher};
@@ -99,7 +100,7 @@ impl PartialEq for Text {
     ghost laws = { Prim.search (comparing, rules) };
 
     fn eq(&self, other: &Text) -> bool {
-        self.shared == other.shared
+        same_bytes(self.as_str().as_bytes(), other.as_str().as_bytes())
     }
 }
 
