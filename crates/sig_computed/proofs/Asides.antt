@@ -1,10 +1,19 @@
 -- What a run has learnt.
-use Rattle.std.proofs.Common.{◌≡◌, ℕ, List, [], ◌∷◌, ◌++◌, length, refl, ap, arith}
+use Rattle.std.proofs.Common.{◌≡◌, ℕ, ◌+◌, ◌≤◌, Bool, true, cond, List, [], ◌∷◌, ◌++◌, map, length, refl, ap, ◌∙◌, subst, arith}
+use Rattle.std.specs.List.{All}
+use Rattle.std.proofs.lemmas.List.{length-append, length-map}
+use Rattle.std.proofs.lemmas.List.Elements.{All-cons, All-head, All-nil, All-tail}
 use Rattle.sig_base.specs.declared.value.Known.{Known}
 use Rattle.sig_base.specs.declared.value.Outcome.TheVariants.{Good}
 use Rattle.signal_model.specs.Sound.{names_of}
 use Rattle.signal_model.specs.Values.{Seen}
+use Rattle.sig_nodes.specs.Reading.{SlotRead, HasReadOn}
+use Rattle.sig_nodes.specs.States as states
+use Rattle.sig_nodes.specs.States.{is_given}
 use Rattle.sig_computed.specs.Steps.{Running, Waiting}
+use Rattle.sig_computed.specs.Turns.{AreReadsGiven}
+use Rattle.sig_computed.specs.Reading.{known_after, reads_after, seen_of, HasGoneOn}
+use Rattle.sig_computed.proofs.Stacks.{names_given}
 use Rattle.sig_computed.specs.Lessons.{Lesson, good_seen}
 use Rattle.sig_computed.specs.Views.{blank_phase, phase_of}
 use Rattle.sig_computed.specs.declared.frames.Doing.{Doing}
@@ -23,11 +32,53 @@ seen_names [] ks h = refl
 seen_names (n ∷ ns) [] h = absurd (omega arith)
 seen_names (n ∷ ns) (k ∷ ks) h = let l : length ns ≡ length ks = omega arith in ap (λ (r : List ℕ). n ∷ r) (seen_names ns ks l)
 
--- one more was read
-pub seen_more : (ns : List ℕ) (ks : List Known) (n : ℕ) (k : Known) → length ns ≡ length ks →
-    good_seen (ns ++ n ∷ []) (ks ++ k ∷ []) ≡ good_seen ns ks ++ record { name = n; outcome = Good k.value } ∷ []
-seen_more [] [] n k h = refl
-seen_more [] (j ∷ ks) n k h = absurd (omega arith)
-seen_more (m ∷ ns) [] n k h = absurd (omega arith)
-seen_more (m ∷ ns) (j ∷ ks) n k h =
-    let l : length ns ≡ length ks = omega arith in ap (λ (r : List Seen). record { name = m; outcome = Good j.value } ∷ r) (seen_more ns ks n k l)
+-- some more were read
+pub seen_all : (ns : List ℕ) (ks : List Known) (more : List SlotRead) → length ns ≡ length ks →
+    good_seen (ns ++ map (λ (r : SlotRead). r.name) more) (known_after ks more) ≡ reads_after (good_seen ns ks) more
+seen_all [] [] more h = all more
+  where
+    all : (rs : List SlotRead) → good_seen (map (λ (r : SlotRead). r.name) rs) (map (λ (r : SlotRead). r.known) rs) ≡ map seen_of rs
+    all [] = refl
+    all (r ∷ rs) = ap (λ (l : List Seen). seen_of r ∷ l) (all rs)
+seen_all [] (j ∷ ks) more h = absurd (omega arith)
+seen_all (m ∷ ns) [] more h = absurd (omega arith)
+seen_all (m ∷ ns) (j ∷ ks) more h =
+    let l : length ns ≡ length ks = omega arith in
+    ap (λ (r : List Seen). record { name = m; outcome = Good j.value } ∷ r) (seen_all ns ks more l)
+
+-- what was read was given where its ids were
+pub seen_given : (g : states.Seen) (ns : List ℕ) (ks : List Known) → All (λ n. is_given g n ≡ true) ns → AreReadsGiven g (good_seen ns ks)
+seen_given g [] ks all = All-nil (λ (r : Seen). is_given g r.name ≡ true)
+seen_given g (n ∷ ns) [] all = All-nil (λ (r : Seen). is_given g r.name ≡ true)
+seen_given g (n ∷ ns) (k ∷ ks) all =
+    All-cons (λ (r : Seen). is_given g r.name ≡ true) (record { name = n; outcome = Good k.value }) (good_seen ns ks)
+    (All-head (λ m. is_given g m ≡ true) n ns all) (seen_given g ns ks (All-tail (λ m. is_given g m ≡ true) n ns all))
+
+-- A run has read on, as the graph tells it of its two lists.
+pub learnt_on : (old new : states.Seen) (n : ℕ) (ks : List Known) (ns : List ℕ) (ks' : List Known) (ns' : List ℕ) (ended : Bool) → length ns ≡ length ks →
+    HasReadOn old.state n ks ns ks' ns' → (All (λ m. is_given old m ≡ true) ns → All (λ m. is_given old m ≡ true) ns') →
+    states.Becomes old new (record old.state { looked = new.state.looked }) → new.seats ≡ old.seats →
+    new.state.looked + length ks ≤ old.state.looked + length ks' + cond ended 1 0 →
+    HasGoneOn old new n (Running ks (good_seen ns ks)) (Running ks' (good_seen ns' ks')) ended
+learnt_on old new n ks ns ks' ns' ended even h given after seats steps =
+    let seen : good_seen ns' ks' ≡ reads_after (good_seen ns ks) h.more =
+    (λ i. good_seen (h.names i) (h.knows i)) ∙ seen_all ns ks h.more even in
+    let more : length ks' ≡ length ks + length (map (λ (r : SlotRead). r.known) h.more) =
+    ap length h.knows ∙ length-append ks (map (λ (r : SlotRead). r.known) h.more) in
+    let many : length (map (λ (r : SlotRead). r.known) h.more) ≡ length h.more = length-map h.more (λ (r : SlotRead). r.known) in
+    record {
+      more = h.more;
+      next = h.next;
+      phase = (λ i. Running (h.knows i) (seen i));
+      given = λ all. subst (AreReadsGiven old) seen (seen_given old ns' ks'
+          (given (subst (All (λ m. is_given old m ≡ true)) (seen_names ns ks even) (names_given old (good_seen ns ks) all))));
+      stays = record {
+        signals = ap (λ (s : states.State). s.signals) after.state;
+        memos = ap (λ (s : states.State). s.memos) after.state;
+        progress = ap (λ (s : states.State). s.progress) after.state;
+        worn = ap (λ (s : states.State). s.worn) after.state;
+        seats = seats;
+        given = after.given;
+        steps = omega (arith, steps, more, many);
+      };
+    }

@@ -6,7 +6,9 @@ mod Asides
 mod Wholes
 mod Measure
 mod Asks
+mod SlotReads
 mod Loops
+mod AfterReads
 mod Runs
 mod Stacks
 mod VisitsLeft

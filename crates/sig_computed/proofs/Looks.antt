@@ -14,9 +14,8 @@ use Rattle.signal_model.specs.Marks.{mark_of}
 use Rattle.signal_model.proofs.Shared.{or_left, or_right, stands-computed, tested}
 use Rattle.signal_laws.proofs.Shared.{in_append}
 use Rattle.sig_computed.specs.Steps.{LookedAt, Move, Needs, Stops, Waiting, decided, is_ready, looked, ready_outcome, slot_read}
-use Rattle.sig_computed.specs.Skips.{clean_among, compare_steps, is_clean, look_steps, passed_over, source_steps}
+use Rattle.sig_computed.specs.Skips.{clean_among, compare_steps, look_steps, passed_over, source_steps}
 use Rattle.sig_computed.proofs.Skips.{among_clean, clean_found}
-use Rattle.signal_model.specs.Marks as marks
 use Rattle.sig_nodes.specs.Looks.{is_clean_mark}
 use Rattle.sig_nodes.specs.States as states
 use Rattle.sig_nodes.specs.States.{Progress, is_given, progress_at}
@@ -76,8 +75,8 @@ over_visited w k visited n on = in_append n visited (clean_among w k w.computeds
 
 -- what wasn't visited may be passed over where it is clean
 pub over_clean : (w : Signals) (k : Memos) (visited : List ℕ) (n : ℕ) → is_computed (standing w n) ≡ true → is_in n visited ≡ false →
-    is_clean (mark_of w k n) ≡ is_in n (passed_over w k visited)
-over_clean w k visited n live off = go (is_clean (mark_of w k n)) refl
+    is_clean_mark (mark_of w k n) ≡ is_in n (passed_over w k visited)
+over_clean w k visited n live off = go (is_clean_mark (mark_of w k n)) refl
   where
     there : (st : Stands) → standing w n ≡ st → is_computed st ≡ true → (d : Computed) × (standing w n ≡ IsComputed d)
     there IsGone e h = cc h
@@ -87,18 +86,18 @@ over_clean w k visited n live off = go (is_clean (mark_of w k n)) refl
     in_over : is_in n (passed_over w k visited) ≡ is_in n (clean_among w k w.computeds)
     in_over = in_append n visited (clean_among w k w.computeds) ∙ ap (λ b. b || is_in n (clean_among w k w.computeds)) off
 
-    none : is_clean (mark_of w k n) ≡ false → (b : Bool) → is_in n (clean_among w k w.computeds) ≡ b → b ≡ false
+    none : is_clean_mark (mark_of w k n) ≡ false → (b : Bool) → is_in n (clean_among w k w.computeds) ≡ b → b ≡ false
     none e false f = refl
-    none e true f = cc (sym (ap is_clean (among_clean w k w.computeds n f)) ∙ e)
+    none e true f = cc (sym (ap is_clean_mark (among_clean w k w.computeds n f)) ∙ e)
 
-    go : (b : Bool) → is_clean (mark_of w k n) ≡ b → is_clean (mark_of w k n) ≡ is_in n (passed_over w k visited)
+    go : (b : Bool) → is_clean_mark (mark_of w k n) ≡ b → is_clean_mark (mark_of w k n) ≡ is_in n (passed_over w k visited)
     go true e =
         let d = there (standing w n) refl live in
         e ∙ sym (in_over ∙ clean_found w k w.computeds n d.0 (stands-computed w n d.0 d.1) e)
     go false e = e ∙ sym (in_over ∙ none e (is_in n (clean_among w k w.computeds)) refl)
 
 -- at the beginning
-pub first_ready : (w : Signals) (k : Memos) (n : ℕ) → is_computed (standing w n) ≡ true → is_ready (standing w n) false (is_in n (passed_over w k [])) ≡ is_clean (mark_of w k n)
+pub first_ready : (w : Signals) (k : Memos) (n : ℕ) → is_computed (standing w n) ≡ true → is_ready (standing w n) false (is_in n (passed_over w k [])) ≡ is_clean_mark (mark_of w k n)
 first_ready w k n live = go (standing w n) live ∙ sym (over_clean w k [] n live refl)
   where
     go : (st : Stands) → is_computed st ≡ true → is_ready st false (is_in n (passed_over w k [])) ≡ is_in n (passed_over w k [])
@@ -161,12 +160,6 @@ read_given g slot m (Good v) known reads all on =
 read_given g slot m (Bad e) known reads all on =
     All-append (λ (r : Seen). is_given g r.name ≡ true) reads (record { name = m; outcome = Bad e } ∷ []) all
     (All-cons (λ (r : Seen). is_given g r.name ≡ true) (record { name = m; outcome = Bad e }) [] on (All-nil (λ (r : Seen). is_given g r.name ≡ true)))
-
--- a mark that the graph finds clean
-pub marked_clean : (m : marks.Mark) → is_clean_mark m ≡ is_clean m
-marked_clean marks.Clean = refl
-marked_clean marks.Checked = refl
-marked_clean marks.Dirty = refl
 
 -- who is found once one more was put in
 pub one_more : (n m : ℕ) (rest : Bool) → cond (n == m) true rest ≡ (m == n || rest)

@@ -19,9 +19,9 @@ use Rattle.sig_computed.specs.declared.notes.RunNote.{RunNote}
 use Rattle.sig_computed.specs.Notes.{Note, note_of, AreNotesGiven}
 use Rattle.sig_computed.specs.Views.{evaluating, frame_of, outer_of, tops, Stays}
 use Rattle.sig_computed.specs.Asked.{places_by, AreThere, CanAsk}
-use Rattle.sig_computed.specs.Turns.{memos_after, move_by, move_reads, move_steps, notes_of, progress_by, runs_of, stack_after, turn_steps, visited_after, AreReadsGiven, IsMove, IsMoved}
+use Rattle.sig_computed.specs.Turns.{memos_after, move_by, move_reads, move_steps, notes_of, runs_of, stack_after, turn_steps, visited_after, AreReadsGiven, IsMove, IsMoved, IsProgressBy}
 use Rattle.sig_computed.proofs.Asks.{can_ask, move_asked, move_counts, phase_asked, phase_asks, places_count, step_asked, HasAsked}
-use Rattle.sig_computed.proofs.Stacks.{HasMove, HasStack, after_turn, after_move, frames_are, given_stays, move_given}
+use Rattle.sig_computed.proofs.Stacks.{HasMove, HasStack, after_turned, after_move, frames_are, given_stays, move_given}
 use Rattle.sig_computed.proofs.Measure.{work, turn_lowers}
 use Rattle.sig_computed.proofs.Wholes.{IsWhole, step_whole}
 
@@ -41,8 +41,8 @@ pub record IsTurn (start g h : states.Seen) (f : Frame) (rest : List Frame) (vis
   pub frames : HasStack g (f ∷ rest)
   pub some : IsMove g.state.signals g.state.memos (evaluating g.state) (passed_over g.state.signals g.state.memos visited) f.name f.phase mv
   pub given : AreReadsGiven g (move_reads mv)
-  pub stays : Stays g h (progress_by f.name f.phase g.state.progress)
-      (turn_steps g.state.signals g.state.memos (evaluating g.state) visited f.name f.phase mv)
+  pub progress : IsProgressBy f.name f.phase mv g.state.progress h.state.progress
+  pub stays : Stays g h h.state.progress (turn_steps g.state.signals g.state.memos (evaluating g.state) visited f.name f.phase mv)
 
 -- The move is made: h is i.
 pub record IsMade (h i : states.Seen) (f : Frame) (rest next : List Frame) (visited visited' : List ℕ) (mv : Move) : Type 0 where
@@ -78,7 +78,7 @@ module _ (start g h : states.Seen) (f : Frame) (rest : List Frame) (visited : Li
 
   -- what the move needs
   pub turn_move : HasMove h f.name rest mv
-  turn_move = after_turn g h f rest t.frames.fits t.frames.idle (passed_over g.state.signals g.state.memos visited) f.phase refl mv t.some t.given t.stays
+  turn_move = after_turned g h f rest t.frames.fits t.frames.idle (passed_over g.state.signals g.state.memos visited) mv t.some t.given t.progress t.stays
 
   -- who is being evaluated
   who : (m : ℕ) → is_in m (evaluating g.state) ≡ is_in m (f.name ∷ frame_names rest)

@@ -145,6 +145,11 @@ pub work_same : (w : Signals) (k : Memos) (fs : List Frame) (u v : List ℕ) →
 work_same w k fs u v same = ap (λ x. stack_weight w k fs + x) (free_same w k w.computeds (frame_names fs ++ u) (frame_names fs ++ v) (λ m.
     in_append m (frame_names fs) u ∙ ap (λ b. is_in m (frame_names fs) || b) (same m) ∙ sym (in_append m (frame_names fs) v)))
 
+-- a frame that has no more left leaves no more
+pub work_left : (w : Signals) (k : Memos) (n : ℕ) (p q : Phase) (fs : List Frame) (visited : List ℕ) → left_here k n q (standing w n) ≤ left_here k n p (standing w n) →
+    work w k (record { name = n; phase = q } ∷ fs) visited ≤ work w k (record { name = n; phase = p } ∷ fs) visited
+work_left w k n p q fs visited h = omega (arith, h)
+
 -- a move leaves less work
 pub move_lowers : (w : Signals) (k : Memos) (n : ℕ) (p : Phase) (fs : List Frame) (visited : List ℕ) (mv : Move) → is_in n (frame_names fs) ≡ false →
     MoveLowers w k (n ∷ frame_names fs) visited n p mv →

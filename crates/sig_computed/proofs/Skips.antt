@@ -27,7 +27,8 @@ use Rattle.sig_computed.specs.StepLaws.{IsOver, IsSettled}
 use Rattle.sig_computed.proofs.StepsHold.{Holds, begun_holds, step_holds, over_settled, unready, shown_visited}
 use Rattle.sig_computed.proofs.VisitsLeft.{completed}
 use Rattle.sig_computed.specs.Costs.{kept_count, name_steps, run_steps, unless_clean, visit_steps}
-use Rattle.sig_computed.specs.Skips.{Counted, begin_steps, clean_among, is_clean, look_steps, passed_over, passing_begun, passing_moved, passing_next, passing_stack, passing_step, frame_steps, source_steps}
+use Rattle.sig_computed.specs.Skips.{Counted, begin_steps, clean_among, look_steps, passed_over, passing_begun, passing_moved, passing_next, passing_stack, passing_step, frame_steps, source_steps}
+use Rattle.sig_nodes.specs.Looks.{is_clean_mark}
 use Rattle.sig_computed.specs.SkipLaws.{IsPassed, PassingLaw, passing_times}
 use Rattle.sig_computed.proofs.CleanRuns.{clean_run}
 use Rattle.sig_computed.proofs.Counts.{all_steps, run_more, seen_steps, first_name, slot_name, waited, was_visited, phase_most, under_most, stack_most, new_most, paid_most, look_once}
@@ -37,13 +38,13 @@ use Rattle.sig_computed.proofs.Passed.{at_point, IsPast, pass_over}
 -- ---- clean names
 
 -- the mark that is clean
-pub clean_is : (m : Mark) → is_clean m ≡ true → m ≡ Clean
+pub clean_is : (m : Mark) → is_clean_mark m ≡ true → m ≡ Clean
 clean_is Clean e = refl
 clean_is Checked e = cc
 clean_is Dirty e = cc
 
 -- what isn't clean costs
-not_clean : (m : Mark) (n : ℕ) → is_clean m ≡ false → unless_clean m n ≡ n
+not_clean : (m : Mark) (n : ℕ) → is_clean_mark m ≡ false → unless_clean m n ≡ n
 not_clean Clean n e = cc
 not_clean Checked n e = refl
 not_clean Dirty n e = refl
@@ -51,9 +52,9 @@ not_clean Dirty n e = refl
 -- those that are found are clean
 pub among_clean : (w : Signals) (k : Memos) (cs : List Computed) (s : ℕ) → is_in s (clean_among w k cs) ≡ true → mark_of w k s ≡ Clean
 among_clean w k [] s h = cc
-among_clean w k (c ∷ cs) s h = go (is_clean (mark_of w k c.name)) refl h (among_clean w k cs s)
+among_clean w k (c ∷ cs) s h = go (is_clean_mark (mark_of w k c.name)) refl h (among_clean w k cs s)
   where
-    go : (b : Bool) → is_clean (mark_of w k c.name) ≡ b → is_in s (cond b (c.name ∷ clean_among w k cs) (clean_among w k cs)) ≡ true →
+    go : (b : Bool) → is_clean_mark (mark_of w k c.name) ≡ b → is_in s (cond b (c.name ∷ clean_among w k cs) (clean_among w k cs)) ≡ true →
         (is_in s (clean_among w k cs) ≡ true → mark_of w k s ≡ Clean) → mark_of w k s ≡ Clean
     go true e q f = elim (either (s == c.name) (is_in s (clean_among w k cs)) q) [
       | inl is ↦ ap (mark_of w k) (eqb-true s c.name is) ∙ clean_is (mark_of w k c.name) e
@@ -62,7 +63,7 @@ among_clean w k (c ∷ cs) s h = go (is_clean (mark_of w k c.name)) refl h (amon
     go false e q f = f q
 
 -- and each computed that is clean is found
-pub clean_found : (w : Signals) (k : Memos) (cs : List Computed) (s : ℕ) (d : Computed) → computed_at s cs ≡ Some d → is_clean (mark_of w k s) ≡ true →
+pub clean_found : (w : Signals) (k : Memos) (cs : List Computed) (s : ℕ) (d : Computed) → computed_at s cs ≡ Some d → is_clean_mark (mark_of w k s) ≡ true →
     is_in s (clean_among w k cs) ≡ true
 clean_found w k [] s d at e = cc
 clean_found w k (c ∷ cs) s d at e = go (s == c.name) refl at (clean_found w k cs s d)
@@ -72,14 +73,14 @@ clean_found w k (c ∷ cs) s d at e = go (s == c.name) refl at (clean_found w k 
     later false h = h
 
     go : (b : Bool) → (s == c.name) ≡ b → cond b (Some c) (computed_at s cs) ≡ Some d →
-        (computed_at s cs ≡ Some d → is_clean (mark_of w k s) ≡ true → is_in s (clean_among w k cs) ≡ true) →
+        (computed_at s cs ≡ Some d → is_clean_mark (mark_of w k s) ≡ true → is_in s (clean_among w k cs) ≡ true) →
         is_in s (clean_among w k (c ∷ cs)) ≡ true
     go true is q f =
         let same : s ≡ c.name = eqb-true s c.name is in
-        let here : is_clean (mark_of w k c.name) ≡ true = ap (λ y. is_clean (mark_of w k y)) (sym same) ∙ e in
+        let here : is_clean_mark (mark_of w k c.name) ≡ true = ap (λ y. is_clean_mark (mark_of w k y)) (sym same) ∙ e in
         ap (λ b. is_in s (cond b (c.name ∷ clean_among w k cs) (clean_among w k cs))) here
         ∙ or_left (s == c.name) (is_in s (clean_among w k cs)) is
-    go false off q f = later (is_clean (mark_of w k c.name)) (f q e)
+    go false off q f = later (is_clean_mark (mark_of w k c.name)) (f q e)
 
 -- a name that isn't among more isn't among fewer
 not_fewer : (a b : Bool) → (a ≡ true → b ≡ true) → b ≡ false → a ≡ false
@@ -116,7 +117,7 @@ module _ (hosts : Hosts) (w : Signals) (k0 : Memos) (asked0 : List ℕ) (kept0 :
   -- frames of computeds that weren't clean at the beginning
   abbrev pub AreOpen : List Frame → Type 0
   AreOpen [] = Unit {0}
-  AreOpen (f ∷ fs) = (is_clean (mark_of w k0 f.name) ≡ false) × AreOpen fs
+  AreOpen (f ∷ fs) = (is_clean_mark (mark_of w k0 f.name) ≡ false) × AreOpen fs
 
   -- each frame waits for the one above it, the first of these for n
   abbrev pub WaitFor : ℕ → List Frame → Type 0
@@ -176,7 +177,7 @@ module _ (hosts : Hosts) (w : Signals) (k0 : Memos) (asked0 : List ℕ) (kept0 :
     in_over = in_append s visited (clean_among w k w.computeds)
 
     -- a clean computed may
-    over_clean : (d : Computed) → standing w s ≡ IsComputed d → is_clean (mark_of w k s) ≡ true → is_in s over ≡ true
+    over_clean : (d : Computed) → standing w s ≡ IsComputed d → is_clean_mark (mark_of w k s) ≡ true → is_in s over ≡ true
     over_clean d st cl = in_over ∙ or_right (is_in s visited) (is_in s (clean_among w k w.computeds))
         (clean_found w k w.computeds s d (stands-computed w s d st) cl)
 
@@ -192,7 +193,7 @@ module _ (hosts : Hosts) (w : Signals) (k0 : Memos) (asked0 : List ℕ) (kept0 :
             let on : is_in s names ≡ true = (λ i. is_ready (sym e i) (sym q i) (is_in s names)) ∙ r in
             (λ i. is_ready (e i) (q i) (is_in s over)) ∙ elim (tested (is_in s visited)) [
               | inl was ↦ in_over ∙ or_left (is_in s visited) (is_in s (clean_among w k w.computeds)) was
-              | inr not' ↦ over_clean d e (ap is_clean (clean s on not'))
+              | inr not' ↦ over_clean d e (ap is_clean_mark (clean s on not'))
             ]
 
     -- what is ready here alone is clean
@@ -206,10 +207,10 @@ module _ (hosts : Hosts) (w : Signals) (k0 : Memos) (asked0 : List ℕ) (kept0 :
         (among_clean w k w.computeds s found, (u.0, u.1, u.2))
 
     -- and what isn't ready here isn't clean
-    over_busy : is_ready (standing w s) b (is_in s over) ≡ false → is_clean (mark_of w k s) ≡ false
+    over_busy : is_ready (standing w s) b (is_in s over) ≡ false → is_clean_mark (mark_of w k s) ≡ false
     over_busy off =
         let u = unready (standing w s) b (is_in s over) off in
-        not_fewer (is_clean (mark_of w k s)) (is_in s over) (over_clean u.0 u.1) u.3
+        not_fewer (is_clean_mark (mark_of w k s)) (is_in s over) (over_clean u.0 u.1) u.3
 
   -- ---- a frame that asks for a source
 
@@ -279,7 +280,7 @@ module _ (hosts : Hosts) (w : Signals) (k0 : Memos) (asked0 : List ℕ) (kept0 :
   -- what a move needs to be: a computed that begins isn't clean, and its reader waits for it; one that ran had to
   abbrev Fits : Memos → ℕ → List Frame → Move → Type 0
   Fits k n fs (GoesOn q) = Unit {0}
-  Fits k n fs (Needs s q) = (is_clean (mark_of w k s) ≡ false) × (waited (sources_of k0 n) (standing w n) q ≡ Some s)
+  Fits k n fs (Needs s q) = (is_clean_mark (mark_of w k s) ≡ false) × (waited (sources_of k0 n) (standing w n) q ≡ Some s)
   Fits k n fs Stops = Unit {0}
   Fits k n fs (Ends e) = must_run k n (frame_names fs) ≡ true
 
@@ -359,8 +360,8 @@ module _ (hosts : Hosts) (w : Signals) (k0 : Memos) (asked0 : List ℕ) (kept0 :
           still = i.still;
           lasts = still_lasts m.next m.more;
           opened = (
-            not_fewer (is_clean (mark_of w k0 s)) (is_clean (mark_of w k s))
-                (λ on. ap is_clean (i.still s (clean_is (mark_of w k0 s) on))) fit.0,
+            not_fewer (is_clean_mark (mark_of w k0 s)) (is_clean_mark (mark_of w k s))
+                (λ on. ap is_clean_mark (i.still s (clean_is (mark_of w k0 s) on))) fit.0,
             i.opened,
           );
           waits = (fit.1, i.waits);
@@ -696,7 +697,7 @@ module _ (hosts : Hosts) (w : Signals) (k0 : Memos) (asked0 : List ℕ) (kept0 :
             clean = i.clean;
             still = i.still;
             lasts = i.lasts;
-            opened = (not_fewer (is_clean (mark_of w k0 n)) (is_clean (mark_of w k n)) (λ on. ap is_clean (i.still n (clean_is (mark_of w k0 n) on))) busy, tt);
+            opened = (not_fewer (is_clean_mark (mark_of w k0 n)) (is_clean_mark (mark_of w k n)) (λ on. ap is_clean_mark (i.still n (clean_is (mark_of w k0 n) on))) busy, tt);
             waits = tt;
             counted =
                 let c = i.counted in

@@ -30,7 +30,7 @@ use Rattle.sig_computed.proofs.StepsEnd.{few_unknown}
 use Rattle.sig_computed.proofs.StepsHold.{unready}
 use Rattle.sig_computed.specs.Notes.{Note, AreNotesGiven, IsNoteGiven}
 use Rattle.sig_computed.specs.Views.{evaluating, progressed, or_cycle, Stays}
-use Rattle.sig_computed.specs.Turns.{evaluation_note, notes_of, waits, phase_known, phase_reads, move_reads, progress_by, stack_after, AreReadsGiven, HasSlot, Fits, AreFit}
+use Rattle.sig_computed.specs.Turns.{evaluation_note, notes_of, waits, phase_known, phase_reads, move_reads, progress_by, stack_after, AreReadsGiven, HasSlot, Fits, AreFit, IsProgressBy}
 use Rattle.sig_computed.specs.Turns.{CanMove, IsAnswered, IsMove, IsMoved, HasFirst}
 use Rattle.sig_computed.proofs.Asks.{reads_more}
 use Rattle.sig_computed.proofs.Progresses.{in_evaluating, progress_other, progress_same, progress_ended}
@@ -102,7 +102,7 @@ MoveFits g n Stops = Unit {0}
 MoveFits g n (Ends e) = Unit {0}
 
 -- some of what is known is some of what is known then
-known_more : (l : List Known) (known more : List Known) → take (length l) known ≡ l → take (length l) (known ++ more) ≡ l
+pub known_more : (l : List Known) (known more : List Known) → take (length l) known ≡ l → take (length l) (known ++ more) ≡ l
 known_more l known more h =
     let n : length (take (length l) known) ≡ length l = ap length h in
     let le : length l ≤ length known = short (length l) known n in
@@ -257,6 +257,10 @@ pub record HasMove (g : states.Seen) (n : ℕ) (fs : List Frame) (mv : Move) : T
 some_computing : (g : states.Seen) (n : ℕ) (l : List Known) → progress_at n g.state.progress ≡ Some l → is_computing g.state n ≡ true
 some_computing g n l e = ap is_some e
 
+-- the progress told otherwise
+progress_told : {g h : states.Seen} {ps qs : List Progress} {most : ℕ} → Stays g h qs most → h.state.progress ≡ ps → Stays g h ps most
+progress_told s e = record { signals = s.signals; memos = s.memos; progress = e; worn = s.worn; seats = s.seats; given = s.given; steps = s.steps }
+
 module _ (g h : states.Seen) (f : Frame) (fs : List Frame) (fit : AreFit g (f ∷ fs))
     (idle : (m : ℕ) → is_in m (frame_names (f ∷ fs)) ≡ false → is_computing g.state m ≡ false) where
   -- a frame that has looked or waited
@@ -298,7 +302,7 @@ module _ (g h : states.Seen) (f : Frame) (fs : List Frame) (fit : AreFit g (f �
       }
 
   -- any
-  pub after_turn : {most : ℕ} (visited : List ℕ) (p : Phase) → f.phase ≡ p → (mv : Move) →
+  after_turn : {most : ℕ} (visited : List ℕ) (p : Phase) → f.phase ≡ p → (mv : Move) →
       IsMove g.state.signals g.state.memos (evaluating g.state) visited f.name p mv → AreReadsGiven g (move_reads mv) →
       Stays g h (progress_by f.name p g.state.progress) most → HasMove h f.name fs mv
   after_turn visited (Looking place) e mv is given s =
@@ -323,6 +327,15 @@ module _ (g h : states.Seen) (f : Frame) (fs : List Frame) (fit : AreFit g (f �
       quiet_turn s mv
       (subst (MoveFits g f.name) (sym is) (wait_moves g f fit.0 g.state.memos visited slot known reads unknown few some _ given'))
       (subst (CanMove g) (sym is) (wait_can g f fit.0 g.state.memos visited slot known reads unknown few some _ given'))
+
+  -- the same, where a run that ends may have come to its end without asking
+  pub after_turned : {most : ℕ} (visited : List ℕ) (mv : Move) → IsMove g.state.signals g.state.memos (evaluating g.state) visited f.name f.phase mv →
+      AreReadsGiven g (move_reads mv) → IsProgressBy f.name f.phase mv g.state.progress h.state.progress → Stays g h h.state.progress most → HasMove h f.name fs mv
+  after_turned visited (GoesOn p) is given e s = after_turn visited f.phase refl (GoesOn p) is given (progress_told s e)
+  after_turned visited (Needs n p) is given e s = after_turn visited f.phase refl (Needs n p) is given (progress_told s e)
+  after_turned visited Stops is given e s = after_turn visited f.phase refl Stops is given (progress_told s e)
+  after_turned visited (Ends r) is given (inl e) s = after_turn visited f.phase refl (Ends r) is given (progress_told s e)
+  after_turned visited (Ends r) is given (inr e) s = quiet_turn (progress_told s e) (Ends r) tt given
 
 -- ---- the move is made
 

@@ -3,6 +3,7 @@ pub mod Asked
 pub mod Lessons
 pub mod Views
 pub mod Turns
+pub mod Reading
 pub mod Steps
 pub mod StepLaws
 pub mod Costs

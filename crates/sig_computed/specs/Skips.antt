@@ -1,22 +1,18 @@
 -- Settling step by step, where what is clean is passed over, and how many steps are counted: a look at a computed that is neither being
 -- evaluated nor visited, a test of a memo, a comparison of a number, and each asking of a recipe.
-use Rattle.std.specs.Prelude.{ℕ, ◌+◌, Bool, true, false, List, [], ◌∷◌, ◌++◌, drop, slice_index, if◌then◌else◌}
+use Rattle.std.specs.Prelude.{ℕ, ◌+◌, Bool, false, List, [], ◌∷◌, ◌++◌, drop, slice_index, if◌then◌else◌}
 use Rattle.signal_model.specs.Recipes.{Hosts}
 use Rattle.signal_model.specs.Signals.{Signals, Computed, Stands, IsComputed, is_in, standing}
 use Rattle.signal_model.specs.Memos.{Source, Memos, sources_of}
-use Rattle.signal_model.specs.Marks.{Mark, Clean, mark_of}
+use Rattle.signal_model.specs.Marks.{mark_of}
+use Rattle.sig_nodes.specs.Looks.{is_clean_mark}
 use Rattle.sig_computed.specs.Steps.{Phase, Looking, LookedAt, Running, Waiting, Frame, Underway, Move, GoesOn, Needs}
 use Rattle.sig_computed.specs.Steps.{frame_names, new_frame, is_ready, frame_move, after_move, begun}
-
--- whether it is the mark of what is clean
-abbrev pub is_clean : Mark → Bool
-is_clean Clean = true
-is_clean _ = false
 
 -- the names of those that are clean
 abbrev pub clean_among : Signals → Memos → List Computed → List ℕ
 clean_among w k [] = []
-clean_among w k (c ∷ cs) = if is_clean (mark_of w k c.name) then c.name ∷ clean_among w k cs else clean_among w k cs
+clean_among w k (c ∷ cs) = if is_clean_mark (mark_of w k c.name) then c.name ∷ clean_among w k cs else clean_among w k cs
 
 -- what needs no settling: what was visited, and what is clean
 abbrev pub passed_over : Signals → Memos → List ℕ → List ℕ

@@ -1,5 +1,5 @@
 -- What a step leaves of each part of a settling.
-use Rattle.std.specs.Prelude.{◌≡◌, ℕ, ◌+◌, ◌≤◌, true, false, List, [], ◌∷◌, take, drop, length, slice_index, Some, None, if◌then◌else◌}
+use Rattle.std.specs.Prelude.{◌≡◌, ℕ, ◌+◌, ◌≤◌, ◌⊎◌, true, false, List, [], ◌∷◌, take, drop, length, slice_index, Some, None, if◌then◌else◌}
 use Rattle.std.specs.List.{All}
 use Rattle.sig_base.specs.declared.value.Known.{Known}
 use Rattle.sig_base.specs.declared.value.Step.{Step}
@@ -108,6 +108,13 @@ progress_by n (Looking place) ps = ps
 progress_by n (LookedAt place) ps = ps
 progress_by n (Running known reads) ps = progressed n (Some known) ps
 progress_by n (Waiting slot known reads) ps = ps
+
+-- the same of a frame that comes to this move: a run that ends may have come to its end without asking
+abbrev pub IsProgressBy : ℕ → Phase → Move → List Progress → List Progress → Type 0
+IsProgressBy n p (GoesOn q) old new = new ≡ progress_by n p old
+IsProgressBy n p (Needs s q) old new = new ≡ progress_by n p old
+IsProgressBy n p Stops old new = new ≡ progress_by n p old
+IsProgressBy n p (Ends e) old new = (new ≡ progress_by n p old) ⊎ (new ≡ old)
 
 -- how many steps a frame counts in a phase, where it comes to this move: a recipe is asked; or a source is looked at, and its number compared
 abbrev pub turn_steps : Signals → Memos → List ℕ → List ℕ → ℕ → Phase → Move → ℕ

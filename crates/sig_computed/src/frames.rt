@@ -1,12 +1,17 @@
 // The frames of computeds that are being evaluated, and what one step of a frame comes to.
-ghost use Rattle.std.specs.Prelude.{◌≡◌, ◌<◌, ◌++◌, [], ◌∷◌, IfOk, OnOk, vec_capacity, vec_len};
+ghost use Rattle.std.specs.Prelude.{◌≡◌, ◌<◌, ◌++◌, [], ◌∷◌, true, IfOk, OnOk, vec_capacity, vec_len};
 ghost use Rattle.sig_base.specs.declared.value.Outcome.TheVariants.{Good};
+ghost use Rattle.signal_model.specs.Signals.{standing};
 ghost use Rattle.signal_model.specs.Sound.{names_of};
 ghost use Rattle.signal_model.specs.Values.{learnt};
+ghost use Rattle.sig_nodes.specs.declared.answers.Asked.TheVariants.{Ended};
+ghost use Rattle.sig_nodes.specs.Answers.{IsAnswerHere};
+ghost use Rattle.sig_computed.specs.Reading.{HasGoneOn};
 ghost use Rattle.sig_computed.specs.Steps.{Running};
 ghost use Rattle.sig_computed.specs.Views.{blank_phase, frame_of, held, outer_of, outer_phase, phase_of, tops};
 
 use sig_base::{Fault, Known, NoMemory, NodeId, Outcome, Value};
+use sig_nodes::Graph;
 use std::alloc::Global;
 use std::marker::Model;
 use std::mem;
@@ -123,6 +128,21 @@ impl Learnt {
         self.reads.push(id)?;
         push_known(&mut self.known, Known { slot, value });
         Ok(())
+    }
+
+    /// Reads on, as far as the slots that a formula needs are ready, and tells whether it came to its end: its outcome then stands in the place
+    /// that is handed in.
+    pub(crate) fn read_on(
+        &mut self,
+        graph: &mut Graph,
+        id: NodeId,
+        outcome: &mut Outcome,
+    ) -> Result<bool, NoMemory>
+        ensures on { IfOk result (λ ended. HasGoneOn graph.old graph.new id (Running self.old.known self.old.reads) (Running self.new.known self.new.reads) ended) }
+        ensures ended { IfOk result (λ ended. ended ≡ true → IsAnswerHere (standing graph.old.state.signals id) self.new.known Ended outcome.new) }
+    {
+        let ended = graph.read_on(id, &mut self.known, &mut self.reads, outcome)?;
+        Ok(ended)
     }
 
     // It has learnt nothing. The lists keep their room, so that what is learnt next asks for no memory where that had enough.
@@ -260,6 +280,7 @@ fn take_up(frame: &mut Open, outer: Outer)
 }
 
 /// The innermost frame is left for the one around it. Whether there is one.
+#[inline(always)]
 pub(crate) fn go_out(stack: &mut Vec<Outer>, frame: &mut Open) -> bool
     ensures { held result frame.new (tops stack.new.items) ≡ tops stack.old.items }
 {

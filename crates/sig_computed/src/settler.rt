@@ -18,7 +18,7 @@ ghost use Rattle.sig_computed.specs.Turns.{evaluation_note, first_stack, notes_o
 
 use crate::frames::{Doing, Learnt, Open, Outer, Turn, begin_run, go_in, go_out};
 use crate::notes::RunNote;
-use crate::turns::{is_clean, outcome_of, turn_of};
+use crate::turns::{is_clean, next_turn, outcome_of};
 use crate::visited::Visited;
 use sig_base::{NoMemory, NodeId, Outcome};
 use sig_host::{Lent, Shelf};
@@ -26,6 +26,7 @@ use sig_nodes::{Graph, IdList, Standing};
 use std::alloc::Global;
 
 // Begins the evaluation of a computed: what is stale runs, and all else looks first.
+#[inline(always)]
 fn begin(graph: &mut Graph, frame: &mut Open)
     requires live { is_computed (standing graph.old.state.signals frame.old.id) ≡ true }
     requires idle { is_computing graph.old.state frame.old.id ≡ false }
@@ -220,7 +221,7 @@ fn bring_up(
     let mut frame = Open::new(alloc, id);
     let mut going = first(graph, &mut frame);
     while going {
-        let turn = turn_of(alloc, graph, shelf, &mut visited, &mut frame)?;
+        let turn = next_turn(alloc, graph, shelf, &mut visited, &mut frame)?;
         going = apply(
             alloc,
             graph,

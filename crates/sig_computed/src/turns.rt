@@ -4,10 +4,12 @@ ghost use Rattle.signal_model.specs.Recipes.{Hosts, IsJudged};
 ghost use Rattle.signal_model.specs.Signals.{is_computed, is_in, standing};
 ghost use Rattle.signal_model.specs.Memos.{holds_cycle, sources_of};
 ghost use Rattle.signal_model.specs.Marks.{mark_of};
-ghost use Rattle.sig_computed.specs.Skips.{compare_steps, is_clean, look_steps, passed_over, source_steps};
+ghost use Rattle.sig_computed.specs.Skips.{compare_steps, look_steps, passed_over, source_steps};
 ghost use Rattle.signal_model.specs.Sound.{standing_outcome};
 ghost use Rattle.sig_nodes.specs.Answers.{answer_here, host_here, slots_here};
+ghost use Rattle.sig_nodes.specs.Looks.{is_clean_mark};
 ghost use Rattle.sig_nodes.specs.States.{is_given, progress_at, GoesOn};
+ghost use Rattle.sig_computed.specs.Reading.{HasEnded, HasGoneOn, HasTurned};
 ghost use Rattle.sig_computed.specs.Steps.{answered, decided, is_ready, looked, ready_outcome, slot_read};
 ghost use Rattle.sig_computed.specs.Views.{evaluating, first_moved, first_name, frame_of, move_of, or_cycle, phase_of, progressed, Stays};
 ghost use Rattle.sig_computed.specs.Asked.{asked_once, places_by, CanAsk};
@@ -24,7 +26,7 @@ use std::alloc::Global;
 /// Looks at a computed that isn't being evaluated: whether it is clean. It is a counted step.
 pub(crate) fn is_clean(graph: &mut Graph, id: NodeId) -> bool
     requires live { is_computed (standing graph.old.state.signals id) ≡ true }
-    ensures clean { result ≡ is_clean (mark_of graph.old.state.signals graph.old.state.memos id) }
+    ensures clean { result ≡ is_clean_mark (mark_of graph.old.state.signals graph.old.state.memos id) }
     ensures after { Stays graph.old graph.new graph.old.state.progress 1 }
 {
     graph.is_clean(id)
@@ -32,6 +34,7 @@ pub(crate) fn is_clean(graph: &mut Graph, id: NodeId) -> bool
 
 // Whether a source needs no settling first: it is no computed, is being evaluated, was visited, or is clean. What was settled just now needs
 // no look at all.
+#[inline(always)]
 fn is_ready(graph: &mut Graph, visited: &mut Visited, id: NodeId) -> Result<bool, NoMemory>
     ensures ready { IfOk result (λ b. b ≡ is_ready (standing graph.old.state.signals id) (is_in id (evaluating graph.old.state)) (is_in id (passed_over graph.old.state.signals graph.old.state.memos visited.old))) }
     ensures after { OnOk result (Stays graph.old graph.new graph.old.state.progress (look_steps (standing graph.old.state.signals id) (is_in id (evaluating graph.old.state)) (is_in id visited.old))) }
@@ -83,6 +86,7 @@ fn decide(graph: &mut Graph, frame: &mut Open, place: usize) -> Turn
 }
 
 // A look at the kept sources from a place on.
+#[inline(always)]
 fn look(
     graph: &mut Graph,
     visited: &mut Visited,
@@ -251,10 +255,10 @@ fn run(
     }
 }
 
-/// One step of a frame, which is left in its new phase. Its clauses are those of a recipe that is asked, for any phase: the turn by the
-/// meanings of the host formulas, in its form and by the ids that it read, the frame, the graph, and what the shelf answers, its counts
-/// and its asks.
-pub(crate) fn turn_of(
+// One step of a frame, which is left in its new phase. Its clauses are those of a recipe that is asked, for any phase: the turn by the
+// meanings of the host formulas, in its form and by the ids that it read, the frame, the graph, and what the shelf answers, its counts
+// and its asks.
+fn turn_of(
     alloc: Global,
     graph: &mut Graph,
     shelf: &mut Shelf,
@@ -280,4 +284,47 @@ pub(crate) fn turn_of(
         Doing::Running => run(alloc, graph, shelf, frame),
         Doing::Waiting(slot) => wait(graph, visited, frame, slot),
     }
+}
+
+// Where a frame runs it reads on, as far as the slots that its formula needs are ready. Whether the formula came to its end: the frame has
+// its outcome then.
+fn read_on(graph: &mut Graph, frame: &mut Open) -> Result<bool, NoMemory>
+    ensures on { IfOk result (λ ended. HasGoneOn graph.old graph.new frame.old.id (phase_of frame.old.doing frame.old.learnt) (phase_of frame.new.doing frame.new.learnt) ended) }
+    ensures id { OnOk result (frame.new.id ≡ frame.old.id) }
+    ensures ended { IfOk result (λ ended. ended ≡ true → HasEnded (standing graph.old.state.signals frame.old.id) frame.new) }
+{
+    match frame.doing {
+        Doing::Running => {
+            let ended = frame.learnt.read_on(graph, frame.id, &mut frame.outcome)?;
+            Ok(ended)
+        }
+        _ => Ok(false),
+    }
+}
+
+/// One turn of a frame: it reads on, and where this hasn't ended its run, it takes a step from the phase that it has come to. The turn, the
+/// frame, and what the shelf answers, its counts and its asks have a clause each.
+pub(crate) fn next_turn(
+    alloc: Global,
+    graph: &mut Graph,
+    shelf: &mut Shelf,
+    visited: &mut Visited,
+    frame: &mut Open,
+) -> Result<Turn, NoMemory>
+    requires fits { Fits graph.old (frame_of frame.old) }
+    requires counted { ⟦<Shelf as Lent>⟧.counted shelf.old }
+    requires host { CanAsk (host_here (standing graph.old.state.signals frame.old.id)) (⟦<Shelf as Lent>⟧.asked shelf.old) }
+    ensures turned { IfOk result (λ t. HasTurned graph.old graph.new (λ hosts. ⟦<Shelf as Lent>⟧.answers hosts shelf.old) (frame_of frame.old) visited.old (move_of t frame.new)) }
+    ensures id { OnOk result (frame.new.id ≡ frame.old.id) }
+    ensures answers { (hosts : Hosts) → ⟦<Shelf as Lent>⟧.answers hosts shelf.old → OnOk result (⟦<Shelf as Lent>⟧.answers hosts shelf.new) }
+    ensures counted { OnOk result (⟦<Shelf as Lent>⟧.counted shelf.new) }
+    ensures asked { OnOk result (⟦<Shelf as Lent>⟧.asked shelf.new ≡ places_by (standing graph.old.state.signals frame.old.id) (phase_of frame.old.doing frame.old.learnt) (⟦<Shelf as Lent>⟧.asked shelf.old)) }
+    ensures visited { OnOk result ((m : ℕ) → is_in m visited.new ≡ is_in m visited.old) }
+{
+    let ended = read_on(graph, frame)?;
+    if ended {
+        return Ok(Turn::Ends);
+    }
+    let turn = turn_of(alloc, graph, shelf, visited, frame)?;
+    Ok(turn)
 }

@@ -16,6 +16,7 @@ use Rattle.sig_computed.proofs.Progresses.{in_evaluating}
 use Rattle.sig_computed.proofs.Asks.{HasAsked, asked_most, exact_places, none_asked}
 use Rattle.sig_computed.proofs.Measure.{work}
 use Rattle.sig_computed.proofs.Loops.{IsTurn, frame_can, made_by, notes_count, turn_asked, turn_frames, turn_given, turn_less, turn_move, turn_whole, visits_same}
+use Rattle.sig_computed.proofs.AfterReads.{asked_on, frame_on, places_on, said_on, turn_on, whole_on, work_on}
 use Rattle.sig_computed.proofs.Wholes.{IsWhole, first_whole, last_whole}
 use Rattle.sig_computed.proofs.Names.{can_still}
 use Rattle.sig_computed.proofs.settler.bring_up.Goals as goal
@@ -55,14 +56,14 @@ loop-going-init g c =
           (subst (λ fs. c.first-going.new.graph.state.looked ≤ c.args.graph.now.state.looked + 1 + length fs) (sym here ∙ is) e.steps));
     }
 
-pub turn_of-requires-clause-fits : goal.turn_of-requires-clause-fits
-turn_of-requires-clause-fits g c =
+pub next_turn-requires-clause-fits : goal.next_turn-requires-clause-fits
+next_turn-requires-clause-fits g c =
     let i = c.loop-going.invariant in
     let up = ap (λ b. held b c.loop-going.frame (tops c.loop-going.stack.items)) c.loop-going-test.true in
     (subst (HasStack c.loop-going.graph) up i.frames).fits.0
 
-pub turn_of-requires-clause-host : goal.turn_of-requires-clause-host
-turn_of-requires-clause-host g c =
+pub next_turn-requires-clause-host : goal.next_turn-requires-clause-host
+next_turn-requires-clause-host g c =
     let i = c.loop-going.invariant in
     let up = ap (λ b. held b c.loop-going.frame (tops c.loop-going.stack.items)) c.loop-going-test.true in
     frame_can c.args.graph.now c.loop-going.graph c.loop-going.frame c.loop-going.stack.items c.loop-going.frame.id _ _ (length c.args.notes.now.items) (length c.loop-going.notes.items) i.signals
@@ -73,70 +74,73 @@ pub apply-requires-clause-computing : goal.apply-requires-clause-computing
 apply-requires-clause-computing g c =
     let i = c.loop-going.invariant in
     let up = ap (λ b. held b c.loop-going.frame (tops c.loop-going.stack.items)) c.loop-going-test.true in
-    let mv = move_of c.in_ok-turn.turn c.turn_of.new.frame in
-    subst (λ n. is_computing c.turn_of.new.graph.state n ≡ true) (sym c.in_ok-turn.ensures.id)
-    (turn_move c.args.graph.now c.loop-going.graph c.turn_of.new.graph (frame_of c.loop-going.frame) (tops c.loop-going.stack.items) c.loop-going.visited mv (record {
-      signals = i.signals;
-      frames = subst (HasStack c.loop-going.graph) up i.frames;
-      some = c.in_ok-turn.ensures.some;
-      given = c.in_ok-turn.ensures.given;
-      stays = c.in_ok-turn.ensures.after;
-    })).computing
+    let f = frame_of c.loop-going.frame in
+    let rest = tops c.loop-going.stack.items in
+    let mv = move_of c.in_ok-turn.turn c.next_turn.new.frame in
+    let e = c.in_ok-turn.ensures.turned in
+    subst (λ n. is_computing c.next_turn.new.graph.state n ≡ true) (sym c.in_ok-turn.ensures.id)
+    (turn_move c.args.graph.now (said_on c.loop-going.graph (length e.more)) c.next_turn.new.graph (frame_on f e.more) rest c.loop-going.visited mv
+    (turn_on c.args.graph.now c.loop-going.graph c.next_turn.new.graph _ f rest c.loop-going.visited mv i.signals (subst (HasStack c.loop-going.graph) up i.frames) e)).computing
 
 pub apply-requires-clause-can : goal.apply-requires-clause-can
 apply-requires-clause-can g c =
     let i = c.loop-going.invariant in
     let up = ap (λ b. held b c.loop-going.frame (tops c.loop-going.stack.items)) c.loop-going-test.true in
-    let mv = move_of c.in_ok-turn.turn c.turn_of.new.frame in
-    (turn_move c.args.graph.now c.loop-going.graph c.turn_of.new.graph (frame_of c.loop-going.frame) (tops c.loop-going.stack.items) c.loop-going.visited mv (record {
-      signals = i.signals;
-      frames = subst (HasStack c.loop-going.graph) up i.frames;
-      some = c.in_ok-turn.ensures.some;
-      given = c.in_ok-turn.ensures.given;
-      stays = c.in_ok-turn.ensures.after;
-    })).can
+    let f = frame_of c.loop-going.frame in
+    let rest = tops c.loop-going.stack.items in
+    let mv = move_of c.in_ok-turn.turn c.next_turn.new.frame in
+    let e = c.in_ok-turn.ensures.turned in
+    (turn_move c.args.graph.now (said_on c.loop-going.graph (length e.more)) c.next_turn.new.graph (frame_on f e.more) rest c.loop-going.visited mv
+    (turn_on c.args.graph.now c.loop-going.graph c.next_turn.new.graph _ f rest c.loop-going.visited mv i.signals (subst (HasStack c.loop-going.graph) up i.frames) e)).can
 
 pub loop-going-smaller : goal.loop-going-smaller
 loop-going-smaller g c =
     let i = c.loop-going.invariant in
     let up = ap (λ b. held b c.loop-going.frame (tops c.loop-going.stack.items)) c.loop-going-test.true in
-    let mv = move_of c.in_ok-turn.turn c.turn_of.new.frame in
-    subst (λ fs. work c.args.graph.now.state.signals c.apply.new.graph.state.memos (held c.in_ok-going.going c.apply.new.frame (tops c.apply.new.stack.items)) c.apply.new.visited
+    let f = frame_of c.loop-going.frame in
+    let rest = tops c.loop-going.stack.items in
+    let mv = move_of c.in_ok-turn.turn c.next_turn.new.frame in
+    let e = c.in_ok-turn.ensures.turned in
+    let said = said_on c.loop-going.graph (length e.more) in
+    let next = held c.in_ok-going.going c.apply.new.frame (tops c.apply.new.stack.items) in
+    let less : work c.args.graph.now.state.signals c.apply.new.graph.state.memos next c.apply.new.visited
+    < work c.args.graph.now.state.signals c.loop-going.graph.state.memos (frame_on f e.more ∷ rest) c.loop-going.visited =
+    turn_less c.args.graph.now said c.next_turn.new.graph (frame_on f e.more) rest c.loop-going.visited mv
+    (turn_on c.args.graph.now c.loop-going.graph c.next_turn.new.graph _ f rest c.loop-going.visited mv i.signals (subst (HasStack c.loop-going.graph) up i.frames) e)
+    c.apply.new.graph next c.apply.new.visited
+    (made_by c.next_turn.new.graph c.apply.new.graph (frame_on f e.more) rest next c.loop-going.visited c.apply.new.visited mv c.next_turn.new.frame.id
+    c.in_ok-turn.ensures.id c.in_ok-going.ensures.stack
+    (λ m. c.in_ok-going.ensures.visited m ∙ visits_same c.next_turn.new.frame.id m mv c.next_turn.new.visited c.loop-going.visited (c.in_ok-turn.ensures.visited m)) c.in_ok-going.ensures.graph) in
+    let most : work c.args.graph.now.state.signals c.loop-going.graph.state.memos (frame_on f e.more ∷ rest) c.loop-going.visited
+    ≤ work c.args.graph.now.state.signals c.loop-going.graph.state.memos (f ∷ rest) c.loop-going.visited =
+    work_on c.args.graph.now c.loop-going.graph f rest c.loop-going.visited e.more i.signals e.next in
+    subst (λ fs. work c.args.graph.now.state.signals c.apply.new.graph.state.memos next c.apply.new.visited
     < work c.args.graph.now.state.signals c.loop-going.graph.state.memos fs c.loop-going.visited) (sym up)
-    (turn_less c.args.graph.now c.loop-going.graph c.turn_of.new.graph (frame_of c.loop-going.frame) (tops c.loop-going.stack.items) c.loop-going.visited mv (record {
-      signals = i.signals;
-      frames = subst (HasStack c.loop-going.graph) up i.frames;
-      some = c.in_ok-turn.ensures.some;
-      given = c.in_ok-turn.ensures.given;
-      stays = c.in_ok-turn.ensures.after;
-    }) c.apply.new.graph
-    (held c.in_ok-going.going c.apply.new.frame (tops c.apply.new.stack.items)) c.apply.new.visited
-    (made_by c.turn_of.new.graph c.apply.new.graph (frame_of c.loop-going.frame) (tops c.loop-going.stack.items) (held c.in_ok-going.going c.apply.new.frame (tops c.apply.new.stack.items))
-    c.loop-going.visited c.apply.new.visited mv c.turn_of.new.frame.id c.in_ok-turn.ensures.id c.in_ok-going.ensures.stack
-    (λ m. c.in_ok-going.ensures.visited m ∙ visits_same c.turn_of.new.frame.id m mv c.turn_of.new.visited c.loop-going.visited (c.in_ok-turn.ensures.visited m)) c.in_ok-going.ensures.graph))
+    (omega (arith, less, most))
 
 pub loop-going-preserved : goal.loop-going-preserved
 loop-going-preserved g c =
     let i = c.loop-going.invariant in
     let up = ap (λ b. held b c.loop-going.frame (tops c.loop-going.stack.items)) c.loop-going-test.true in
-    let mv = move_of c.in_ok-turn.turn c.turn_of.new.frame in
-    let s = c.in_ok-turn.ensures.after in
+    let f = frame_of c.loop-going.frame in
+    let rest = tops c.loop-going.stack.items in
+    let mv = move_of c.in_ok-turn.turn c.next_turn.new.frame in
+    let e = c.in_ok-turn.ensures.turned in
+    let s = e.stays in
     let m = c.in_ok-going.ensures.graph in
     let next = held c.in_ok-going.going c.apply.new.frame (tops c.apply.new.stack.items) in
-    let t : IsTurn c.args.graph.now c.loop-going.graph c.turn_of.new.graph (frame_of c.loop-going.frame) (tops c.loop-going.stack.items)
-    c.loop-going.visited (move_of c.in_ok-turn.turn c.turn_of.new.frame) = record {
-      signals = i.signals;
-      frames = subst (HasStack c.loop-going.graph) up i.frames;
-      some = c.in_ok-turn.ensures.some;
-      given = c.in_ok-turn.ensures.given;
-      stays = c.in_ok-turn.ensures.after;
-    } in
-    let d = made_by c.turn_of.new.graph c.apply.new.graph (frame_of c.loop-going.frame) (tops c.loop-going.stack.items) (held c.in_ok-going.going c.apply.new.frame (tops c.apply.new.stack.items))
-    c.loop-going.visited c.apply.new.visited mv c.turn_of.new.frame.id c.in_ok-turn.ensures.id c.in_ok-going.ensures.stack
-    (λ m. c.in_ok-going.ensures.visited m ∙ visits_same c.turn_of.new.frame.id m mv c.turn_of.new.visited c.loop-going.visited (c.in_ok-turn.ensures.visited m)) c.in_ok-going.ensures.graph in
+    let stack = subst (HasStack c.loop-going.graph) up i.frames in
+    let said = said_on c.loop-going.graph (length e.more) in
+    let on = frame_on f e.more in
+    let t : IsTurn c.args.graph.now said c.next_turn.new.graph on rest c.loop-going.visited mv =
+    turn_on c.args.graph.now c.loop-going.graph c.next_turn.new.graph _ f rest c.loop-going.visited mv i.signals stack e in
+    let d = made_by c.next_turn.new.graph c.apply.new.graph on rest next c.loop-going.visited c.apply.new.visited mv c.next_turn.new.frame.id c.in_ok-turn.ensures.id
+    c.in_ok-going.ensures.stack
+    (λ m. c.in_ok-going.ensures.visited m ∙ visits_same c.next_turn.new.frame.id m mv c.next_turn.new.visited c.loop-going.visited (c.in_ok-turn.ensures.visited m)) c.in_ok-going.ensures.graph in
+    let asked = subst (HasAsked c.args.graph.now.state.signals _ _ (length c.args.notes.now.items) (length c.loop-going.notes.items)) up i.asked in
     let can = frame_can c.args.graph.now c.loop-going.graph c.loop-going.frame c.loop-going.stack.items c.loop-going.frame.id _ _ (length c.args.notes.now.items) (length c.loop-going.notes.items) i.signals
-    c.made-made.ensures.few (subst (HasStack c.loop-going.graph) up i.frames) c.requires.there c.requires.room (omega arith) (omega arith)
-    (subst (HasAsked c.args.graph.now.state.signals _ _ (length c.args.notes.now.items) (length c.loop-going.notes.items)) up i.asked) in
+    c.made-made.ensures.few stack c.requires.there c.requires.room (omega arith) (omega arith) asked in
+    let places = c.in_ok-turn.ensures.asked ∙ places_on (standing c.loop-going.graph.state.signals c.loop-going.frame.id) f.phase e.more _ in
     let noted : map note_of c.apply.new.notes.items ≡ map note_of c.loop-going.notes.items ++ notes_of c.loop-going.frame.id mv =
     c.in_ok-going.ensures.notes ∙ ap (λ n. map note_of c.loop-going.notes.items ++ notes_of n mv) c.in_ok-turn.ensures.id in
     let count = notes_count c.loop-going.frame.id mv c.loop-going.notes.items c.apply.new.notes.items noted in
@@ -148,21 +152,23 @@ loop-going-preserved g c =
           (map note_of c.loop-going.notes.items ++ notes_of c.loop-going.frame.id mv) noted
           (All-append (IsNoteGiven c.args.graph.now) (map note_of c.loop-going.notes.items)
           (notes_of c.loop-going.frame.id mv) (i.named all)
-          (turn_given c.args.graph.now c.loop-going.graph c.turn_of.new.graph (frame_of c.loop-going.frame) (tops c.loop-going.stack.items) c.loop-going.visited mv t i.given c.made-made.ensures.used));
-      worn = let a = m.worn in let b = s.worn in let e = i.worn in omega (arith, a, b, e, count);
-      frames = turn_frames c.args.graph.now c.loop-going.graph c.turn_of.new.graph (frame_of c.loop-going.frame) (tops c.loop-going.stack.items) c.loop-going.visited mv t c.apply.new.graph next c.apply.new.visited d;
+          (turn_given c.args.graph.now said c.next_turn.new.graph on rest c.loop-going.visited mv t i.given c.made-made.ensures.used));
+      worn = let a = m.worn in let b = s.worn in let x = i.worn in omega (arith, a, b, x, count);
+      frames = turn_frames c.args.graph.now said c.next_turn.new.graph on rest c.loop-going.visited mv t c.apply.new.graph next c.apply.new.visited d;
       counted = c.in_ok-turn.ensures.counted;
       answers = λ hosts all. c.in_ok-turn.ensures.answers hosts (i.answers hosts all);
-      asked = turn_asked c.args.graph.now c.loop-going.graph c.turn_of.new.graph (frame_of c.loop-going.frame) (tops c.loop-going.stack.items) c.loop-going.visited mv t c.apply.new.graph next
+      asked = turn_asked c.args.graph.now said c.next_turn.new.graph on rest c.loop-going.visited mv t c.apply.new.graph next
           c.apply.new.visited d _ _ _ (length c.args.notes.now.items) (length c.loop-going.notes.items) (length c.apply.new.notes.items)
-          c.made-made.ensures.few can c.in_ok-turn.ensures.asked count
-          (subst (HasAsked c.args.graph.now.state.signals _ _ (length c.args.notes.now.items) (length c.loop-going.notes.items)) up i.asked);
-      whole = λ hosts all kept. turn_whole c.args.graph.now c.loop-going.graph c.turn_of.new.graph (frame_of c.loop-going.frame) (tops c.loop-going.stack.items) c.loop-going.visited mv t c.apply.new.graph next
+          c.made-made.ensures.few can places count
+          (asked_on c.args.graph.now.state.signals _ _ (length c.args.notes.now.items) (length c.loop-going.notes.items) f rest e.more asked);
+      whole = λ hosts all kept. turn_whole c.args.graph.now said c.next_turn.new.graph on rest c.loop-going.visited mv t c.apply.new.graph next
           c.apply.new.visited d hosts c.args.graph.now.state.memos kept c.args.graph.now.state.looked _ _ _ (c.args.id ∷ [])
           (map note_of c.args.notes.now.items) (map note_of c.loop-going.notes.items) (map note_of c.apply.new.notes.items) noted
-          can c.in_ok-turn.ensures.asked (c.in_ok-turn.ensures.turn hosts (i.answers hosts all))
+          can places (e.turn hosts (i.answers hosts all))
+          (whole_on c.args.graph.now c.loop-going.graph f rest c.loop-going.visited e.more i.signals stack e.next hosts c.args.graph.now.state.memos kept
+          c.args.graph.now.state.looked _ _ (c.args.id ∷ []) (map note_of c.args.notes.now.items) (map note_of c.loop-going.notes.items)
           (subst (IsWhole hosts c.args.graph.now.state.signals c.args.graph.now.state.memos kept c.args.graph.now.state.looked _ (c.args.id ∷ [])
-          c.loop-going.graph.state.memos c.loop-going.graph.state.looked _ (map note_of c.args.notes.now.items) (map note_of c.loop-going.notes.items) c.loop-going.visited) up (i.whole hosts all kept));
+          c.loop-going.graph.state.memos c.loop-going.graph.state.looked _ (map note_of c.args.notes.now.items) (map note_of c.loop-going.notes.items) c.loop-going.visited) up (i.whole hosts all kept)));
     }
 
 pub returns-clause-value : goal.returns-clause-value

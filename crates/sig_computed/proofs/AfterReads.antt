@@ -1,0 +1,285 @@
+-- What holds of the frames and of the loop once the innermost frame has read on.
+use Rattle.std.proofs.Common.{◌≡◌, ℕ, ◌+◌, ◌≤◌, Bool, true, false, cond, List, [], ◌∷◌, map, length, None, refl, sym, ap, ◌∙◌, subst, arith, inl, inr}
+use Rattle.sig_base.specs.declared.value.Step.{Step}
+use Rattle.sig_formula.specs.Evaluation.{step_by}
+use Rattle.signal_model.specs.Recipes.{Hosts}
+use Rattle.signal_model.specs.Signals.{Signals, Stands, IsGone, IsCell, IsComputed, standing}
+use Rattle.signal_model.specs.Values.{unknown_slots}
+use Rattle.signal_model.specs.Memos.{Memos}
+use Rattle.signal_model.specs.Kept.{AreKept}
+use Rattle.signal_model.specs.Asks.{asks_host, good_reads}
+use Rattle.sig_host.specs.Hosts.{HostPlace}
+use Rattle.sig_nodes.specs.declared.answers.Asked.TheVariants.{Ended}
+use Rattle.sig_nodes.specs.Answers.{host_here, slots_here}
+use Rattle.sig_nodes.specs.Reading.{SlotRead}
+use Rattle.sig_nodes.specs.States as states
+use Rattle.sig_nodes.specs.States.{Progress, State}
+use Rattle.sig_computed.specs.declared.frames.Open.{Open}
+use Rattle.sig_computed.specs.Asked.{places_by}
+use Rattle.sig_computed.specs.Notes.{Note}
+use Rattle.sig_computed.specs.Reading.{known_after, phase_after, reads_after, CanRead, HasEnded, HasGoneOn, HasTurned}
+use Rattle.sig_computed.specs.Skips.{passed_over}
+use Rattle.sig_computed.specs.StepLaws.{left_here}
+use Rattle.sig_computed.specs.Steps.{Phase, Looking, LookedAt, Running, Waiting, Frame, Move, GoesOn, Needs, Stops, Ends, answered}
+use Rattle.sig_computed.specs.Turns.{move_by, move_reads, phase_reads, progress_by, turn_steps, AreReadsGiven, Fits, IsMove, IsProgressBy}
+use Rattle.sig_computed.specs.Views.{evaluating, evaluation_of, phase_of, Stays}
+use Rattle.sig_computed.proofs.Asks.{phase_asked, HasAsked}
+use Rattle.sig_computed.proofs.Leaves.{end_answer, ended_judged, ended_move, unasked}
+use Rattle.sig_computed.proofs.Looks.{evaluating_stays}
+use Rattle.sig_computed.proofs.Loops.{IsTurn}
+use Rattle.sig_computed.proofs.Measure.{work, work_left}
+use Rattle.sig_computed.proofs.SlotReads.{reads_good, reads_unknown, reads_whole}
+use Rattle.sig_computed.proofs.Stacks.{HasStack, fits_stays, frames_are, given_stays, known_more, stack_stays}
+use Rattle.sig_computed.proofs.Wholes.{IsWhole}
+
+-- the graph, where so many steps more were counted
+abbrev pub said_on : states.Seen → ℕ → states.Seen
+said_on g steps = record g { state = record g.state { looked = g.state.looked + steps } }
+
+-- a frame once these were read
+abbrev pub frame_on : Frame → List SlotRead → Frame
+frame_on f more = record { name = f.name; phase = phase_after f.phase more }
+
+-- ---- the frames
+
+-- the frame fits in its phase then
+fits_on : (g : states.Seen) (n : ℕ) (p : Phase) (more : List SlotRead) → Fits g (record { name = n; phase = p }) → CanRead g.state n p more →
+    AreReadsGiven g (phase_reads (phase_after p more)) → Fits g (record { name = n; phase = phase_after p more })
+fits_on g n (Looking place) more fit can given = fit
+fits_on g n (LookedAt place) more fit can given = fit
+fits_on g n (Waiting slot known reads) more fit can given = fit
+fits_on g n (Running known reads) more fit can given =
+    let unknown : unknown_slots (length fit.computed.recipe.slots) (known_after known more) + length more ≡ unknown_slots (length fit.computed.recipe.slots) known =
+    subst (λ (st : Stands). unknown_slots (length (slots_here st)) (known_after known more) + length more ≡ unknown_slots (length (slots_here st)) known)
+    fit.stands (reads_unknown g.state n known more can) in
+    let good : good_reads (reads_after reads more) ≡ good_reads reads + length more = reads_good reads more in
+    let few : good_reads reads + unknown_slots (length fit.computed.recipe.slots) known ≤ length fit.computed.recipe.slots = fit.few in
+    record {
+      computed = fit.computed;
+      stands = fit.stands;
+      earlier = fit.earlier;
+      begun = fit.begun;
+      known = known_more fit.earlier known (map (λ (r : SlotRead). r.known) more) fit.known;
+      slot = tt;
+      few = omega (arith, unknown, good, few);
+      given = given;
+    }
+
+-- it fits the graph after the reads
+pub fits_gone : (g h : states.Seen) (n m : ℕ) (p q : Phase) (ended : Bool) → Fits g (record { name = n; phase = p }) → HasGoneOn g h n p q ended → m ≡ n →
+    Fits h (record { name = m; phase = q })
+fits_gone g h n m p q ended fit on same =
+    subst (λ (f : Frame). Fits h f) (λ i. record { name = sym same i; phase = sym on.phase i })
+    (fits_stays g h on.stays.signals on.stays.given (record { name = n; phase = phase_after p on.more })
+    (λ i. states.progress_at n (on.stays.progress i)) (fits_on g n p on.more fit on.next (on.given fit.given)))
+
+-- the frames have what they need
+stack_on : (g : states.Seen) (steps : ℕ) (f : Frame) (rest : List Frame) (more : List SlotRead) → HasStack g (f ∷ rest) → CanRead g.state f.name f.phase more →
+    AreReadsGiven g (phase_reads (phase_after f.phase more)) → HasStack (said_on g steps) (frame_on f more ∷ rest)
+stack_on g steps f rest more h can given = record {
+  fits = (
+    fits_stays g (said_on g steps) refl refl (frame_on f more) refl (fits_on g f.name f.phase more h.fits.0 can given),
+    h.fits.1,
+    stack_stays g (said_on g steps) refl refl f.name rest h.fits.1 (λ m off. refl) h.fits.2,
+  );
+  idle = h.idle;
+}
+
+-- ---- what the loop keeps
+
+-- no less was asked
+asked_more : (p : Phase) (more : List SlotRead) → phase_asked p ≤ phase_asked (phase_after p more)
+asked_more (Looking place) more = omega arith
+asked_more (LookedAt place) more = omega arith
+asked_more (Running known reads) more = let e : good_reads (reads_after reads more) ≡ good_reads reads + length more = reads_good reads more in omega (arith, e)
+asked_more (Waiting slot known reads) more = omega arith
+
+-- what is known of the places
+pub asked_on : (w : Signals) (old new : List HostPlace) (before after : ℕ) (f : Frame) (rest : List Frame) (more : List SlotRead) →
+    HasAsked w old new before after (f ∷ rest) → HasAsked w old new before after (frame_on f more ∷ rest)
+asked_on w old new before after f rest more h = record {
+  there = h.there;
+  places = h.places;
+  rise = λ place.
+      let one = by (asks_host place (standing w f.name)) in
+      let rise = h.rise place in
+      omega (arith, one, rise);
+}
+  where
+    by : (b : Bool) → cond b (phase_asked f.phase) 0 ≤ cond b (phase_asked (phase_after f.phase more)) 0
+    by true = asked_more f.phase more
+    by false = omega arith
+
+-- the asks of the turn are those of the phase before
+pub places_on : (st : Stands) (p : Phase) (more : List SlotRead) (asked : List HostPlace) → places_by st p asked ≡ places_by st (phase_after p more) asked
+places_on st (Looking place) more asked = refl
+places_on st (LookedAt place) more asked = refl
+places_on st (Running known reads) more asked = refl
+places_on st (Waiting slot known reads) more asked = refl
+
+-- what a frame has left
+left_on : (k : Memos) (s : State) (n : ℕ) (p : Phase) (more : List SlotRead) → CanRead s n p more →
+    left_here k n (phase_after p more) (standing s.signals n) ≤ left_here k n p (standing s.signals n)
+left_on k s n (Looking place) more can = omega arith
+left_on k s n (LookedAt place) more can = omega arith
+left_on k s n (Waiting slot known reads) more can = omega arith
+left_on k s n (Running known reads) more can = go (standing s.signals n) (reads_unknown s n known more can)
+  where
+    go : (st : Stands) → unknown_slots (length (slots_here st)) (known_after known more) + length more ≡ unknown_slots (length (slots_here st)) known →
+        left_here k n (Running (known_after known more) (reads_after reads more)) st ≤ left_here k n (Running known reads) st
+    go IsGone e = omega arith
+    go (IsCell c) e = omega arith
+    go (IsComputed c) e = omega (arith, e)
+
+-- no more is left to do
+pub work_on : (start g : states.Seen) (f : Frame) (rest : List Frame) (visited : List ℕ) (more : List SlotRead) → g.state.signals ≡ start.state.signals →
+    CanRead g.state f.name f.phase more →
+    work start.state.signals g.state.memos (frame_on f more ∷ rest) visited ≤ work start.state.signals g.state.memos (f ∷ rest) visited
+work_on start g f rest visited more same can =
+    work_left start.state.signals g.state.memos f.name f.phase (phase_after f.phase more) rest visited
+    (subst (λ (w : Signals). left_here g.state.memos f.name (phase_after f.phase more) (standing w f.name) ≤ left_here g.state.memos f.name f.phase (standing w f.name))
+    same (left_on g.state.memos g.state f.name f.phase more can))
+
+module _ (start g : states.Seen) (f : Frame) (rest : List Frame) (visited : List ℕ) (more : List SlotRead) (same : g.state.signals ≡ start.state.signals)
+    (stack : HasStack g (f ∷ rest)) (can : CanRead g.state f.name f.phase more) (hosts : Hosts) (k0 : Memos) (kept0 : AreKept hosts start.state.signals k0) (steps0 : ℕ)
+    (places0 places : List HostPlace) (asked : List ℕ) (before after : List Note) where
+  -- the whole, with the innermost frame in a phase
+  abbrev WholeBy : ℕ → Phase → Type 0
+  WholeBy steps p = IsWhole hosts start.state.signals k0 kept0 steps0 places0 asked g.state.memos steps places before after visited (record { name = f.name; phase = p } ∷ rest)
+
+  -- where nothing is read
+  none_whole : (p : Phase) → more ≡ [] → WholeBy g.state.looked p → WholeBy (g.state.looked + length more) p
+  none_whole p e x = let n : length more ≡ 0 = ap length e in subst (λ steps. WholeBy steps p) (omega (arith, n)) x
+
+  phase_whole : (p : Phase) → CanRead g.state f.name p more → WholeBy g.state.looked p → WholeBy (g.state.looked + length more) (phase_after p more)
+  phase_whole (Looking place) e x = none_whole (Looking place) e x
+  phase_whole (LookedAt place) e x = none_whole (LookedAt place) e x
+  phase_whole (Waiting slot known reads) e x = none_whole (Waiting slot known reads) e x
+  phase_whole (Running known reads) all x =
+      reads_whole hosts start g same k0 kept0 steps0 places0 places asked before after visited rest f.name stack.fits.0.computed
+      (ap (λ w. standing w f.name) (sym same) ∙ stack.fits.0.stands) (frames_are g (f ∷ rest) stack) g.state.looked known reads more all x
+
+  -- the whole stays the whole
+  pub whole_on : IsWhole hosts start.state.signals k0 kept0 steps0 places0 asked g.state.memos g.state.looked places before after visited (f ∷ rest) →
+      IsWhole hosts start.state.signals k0 kept0 steps0 places0 asked g.state.memos (g.state.looked + length more) places before after visited (frame_on f more ∷ rest)
+  whole_on x = phase_whole f.phase can x
+
+-- ---- a turn
+
+-- the turn is one of the frame in its phase after the reads, over a graph that has counted these
+pub turn_on : (start g h : states.Seen) (answers : Hosts → Type 0) (f : Frame) (rest : List Frame) (visited : List ℕ) (mv : Move) → g.state.signals ≡ start.state.signals →
+    HasStack g (f ∷ rest) → (t : HasTurned g h answers f visited mv) → IsTurn start (said_on g (length t.more)) h (frame_on f t.more) rest visited mv
+turn_on start g h answers f rest visited mv same stack t =
+    let steps = t.stays.steps in
+    record {
+      signals = same;
+      frames = stack_on g (length t.more) f rest t.more stack t.next t.on;
+      some = t.some;
+      given = given_stays g (said_on g (length t.more)) (move_reads mv) refl t.given;
+      progress = t.progress;
+      stays = record {
+        signals = t.stays.signals;
+        memos = t.stays.memos;
+        progress = refl;
+        worn = t.stays.worn;
+        seats = t.stays.seats;
+        given = t.stays.given;
+        steps = omega (arith, steps);
+      };
+    }
+
+-- a run whose formula has come to its end
+pub ended_turn : (old new : states.Seen) (answers : Hosts → Type 0) (n : ℕ) (p : Phase) (visited : List ℕ) (f : Open) → AreReadsGiven old (phase_reads p) →
+    HasGoneOn old new n p (phase_of f.doing f.learnt) true → HasEnded (standing old.state.signals n) f →
+    HasTurned old new answers (record { name = n; phase = p }) visited (Ends (evaluation_of f.learnt.reads f.outcome))
+ended_turn old new answers n p visited f given on ended =
+    let w = old.state.signals in
+    let k = old.state.memos in
+    let over = passed_over w k visited in
+    let known = f.learnt.known in
+    let reads = f.learnt.reads in
+    let mv : Move = Ends (evaluation_of reads f.outcome) in
+    let run : phase_after p on.more ≡ Running known reads = sym on.phase ∙ ended.runs in
+    let steps = on.stays.steps in
+    let one : turn_steps w k (evaluating old.state) visited n (phase_after p on.more) mv ≡ 1 = ap (λ q. turn_steps w k (evaluating old.state) visited n q mv) run in
+    record {
+      more = on.more;
+      next = on.next;
+      on = on.given given;
+      turn = λ hosts all. ended_move f.outcome known reads
+          ∙ ap (λ (s : Step). answered s known reads) ((end_answer (standing w n) known Ended f.outcome refl ended.answer).1 hosts)
+          ∙ ap (λ q. move_by hosts w k (evaluating old.state) over n q) (sym run);
+      some = subst (λ q. IsMove w k (evaluating old.state) over n q mv) (sym run) (record {
+        answer = step_by None f.outcome;
+        judged = ended_judged f.outcome (length (slots_here (standing w n))) known;
+        move = ended_move f.outcome known reads;
+      });
+      given = subst (λ q. AreReadsGiven old (phase_reads q)) run (on.given given);
+      progress = inr on.stays.progress;
+      stays = record {
+        signals = on.stays.signals;
+        memos = on.stays.memos;
+        progress = refl;
+        worn = on.stays.worn;
+        seats = on.stays.seats;
+        given = on.stays.given;
+        steps = omega (arith, steps, one);
+      };
+    }
+
+-- what a phase leaves of the progress is what its move leaves
+progress_asked : (n : ℕ) (p : Phase) (mv : Move) (old new : List Progress) → new ≡ progress_by n p old → IsProgressBy n p mv old new
+progress_asked n p (GoesOn q) old new e = e
+progress_asked n p (Needs m q) old new e = e
+progress_asked n p Stops old new e = e
+progress_asked n p (Ends r) old new e = inl e
+
+-- any other turn
+pub gone_turn : (old mid new : states.Seen) (answers : Hosts → Type 0) (n m : ℕ) (p q : Phase) (visited : List ℕ) (mv : Move) → AreReadsGiven old (phase_reads p) →
+    HasGoneOn old mid n p q false → m ≡ n →
+    ((hosts : Hosts) → answers hosts →
+    mv ≡ move_by hosts mid.state.signals mid.state.memos (evaluating mid.state) (passed_over mid.state.signals mid.state.memos visited) m q) →
+    IsMove mid.state.signals mid.state.memos (evaluating mid.state) (passed_over mid.state.signals mid.state.memos visited) m q mv → AreReadsGiven mid (move_reads mv) →
+    Stays mid new (progress_by m q mid.state.progress) (turn_steps mid.state.signals mid.state.memos (evaluating mid.state) visited m q mv) →
+    HasTurned old new answers (record { name = n; phase = p }) visited mv
+gone_turn old mid new answers n m p q visited mv given on same turn some reads s =
+    let a = on.stays in
+    let ev = evaluating_stays old mid (length on.more + 0) a in
+    let steps : turn_steps mid.state.signals mid.state.memos (evaluating mid.state) visited m q mv
+    ≡ turn_steps old.state.signals old.state.memos (evaluating old.state) visited n (phase_after p on.more) mv =
+    (λ i. turn_steps (a.signals i) (a.memos i) (ev i) visited (same i) (on.phase i) mv) in
+    let first = a.steps in
+    let second = s.steps in
+    record {
+      more = on.more;
+      next = on.next;
+      on = on.given given;
+      turn = λ hosts all. turn hosts all ∙ (λ i. move_by hosts (a.signals i) (a.memos i) (ev i) (passed_over (a.signals i) (a.memos i) visited) (same i) (on.phase i));
+      some = subst (λ z. z) (λ i. IsMove (a.signals i) (a.memos i) (ev i) (passed_over (a.signals i) (a.memos i) visited) (same i) (on.phase i) mv) some;
+      given = given_stays mid old (move_reads mv) (sym a.given) reads;
+      progress = progress_asked n (phase_after p on.more) mv old.state.progress new.state.progress
+          (s.progress ∙ (λ i. progress_by (same i) (on.phase i) (a.progress i)));
+      stays = record {
+        signals = s.signals ∙ a.signals;
+        memos = s.memos ∙ a.memos;
+        progress = refl;
+        worn = s.worn ∙ a.worn;
+        seats = s.seats ∙ a.seats;
+        given = s.given ∙ a.given;
+        steps = omega (arith, first, second, steps);
+      };
+    }
+
+-- what was asked then, where a formula has come to its end
+pub ended_asked : (old new : states.Seen) (n : ℕ) (p : Phase) (ended : Bool) (f : Open) (asked : List HostPlace) →
+    HasGoneOn old new n p (phase_of f.doing f.learnt) ended → HasEnded (standing old.state.signals n) f → asked ≡ places_by (standing old.state.signals n) p asked
+ended_asked old new n p ended f asked on end =
+    let st = standing old.state.signals n in
+    unasked (host_here st) asked (end_answer st f.learnt.known Ended f.outcome refl end.answer).0
+    ∙ sym (places_on st p on.more asked ∙ ap (λ q. places_by st q asked) (sym on.phase ∙ end.runs))
+
+-- and in any other turn
+pub gone_asked : (old mid : states.Seen) (n m : ℕ) (p q : Phase) (ended : Bool) (asked : List HostPlace) → HasGoneOn old mid n p q ended → m ≡ n →
+    places_by (standing mid.state.signals m) q asked ≡ places_by (standing old.state.signals n) p asked
+gone_asked old mid n m p q ended asked on same =
+    (λ i. places_by (standing (on.stays.signals i) (same i)) (on.phase i) asked) ∙ sym (places_on (standing old.state.signals n) p on.more asked)
