@@ -4,4 +4,5 @@ mod Compared
 mod HeardAgain
 mod Fronts
 mod Tabled
+mod Unmoved
 pub mod Shared

@@ -3,8 +3,14 @@ use Rattle.std.specs.Prelude.{◌≡◌, ℕ, ◌+◌, ◌<◌, ◌++◌, ◌∷
 use Rattle.std.specs.List.{AllByRecursion}
 use Rattle.std.specs.Map.{keys_of}
 use Rattle.sig_base.specs.declared.value.Outcome.{Outcome}
+use Rattle.signal_model.specs.Recipes.{Hosts}
+use Rattle.signal_model.specs.Signals.{Signals}
+use Rattle.signal_model.specs.Values.{value_of}
+use Rattle.signal_model.specs.Memos.{Memos}
+use Rattle.signal_model.specs.Settling.{settled}
+use Rattle.signal_model.specs.Kept.{AreKept}
 use Rattle.signal_laws.specs.ReadLaws.{firsts_after}
-use Rattle.tpl_hearing.specs.Heard.{Outcomes, heard_of}
+use Rattle.tpl_hearing.specs.Heard.{Comparisons, Outcomes, heard_of}
 use Rattle.tpl_hearing.specs.declared.comparisons.Rehearing.{Rehearing}
 
 -- a name has the outcome that it had before
@@ -22,6 +28,10 @@ pub record IsCompared (before now : Outcomes) (n : ℕ) (same : Bool) : Type 0 w
   pub outcome : Outcome
   pub is : heard_of now n ≡ Some outcome
   pub was : same ≡ true → heard_of before n ≡ Some outcome
+
+-- so it is with each of some names
+abbrev pub AllCompared : Outcomes → Outcomes → Comparisons → Type 0
+AllCompared before now ps = AllByRecursion (λ (p : ℕ × Bool). IsCompared before now p.0 p.1) ps
 
 -- so it is with each name of which this is known
 abbrev pub AreCompared : Outcomes → Rehearing → Type 0
@@ -57,3 +67,8 @@ pub record IsFront (before now : Outcomes) : Type 0 where
   pub outcome : Outcome
   pub at : slice_get before count ≡ Some (name, was)
   pub all : now ≡ take count before ++ (name, outcome) ∷ []
+
+-- A signal shows an outcome as it stands: where what is kept is sound, settling the signal changes nothing, and this is its value.
+pub record StandsAs (w : Signals) (k : Memos) (n : ℕ) (o : Outcome) : Type 0 where
+  pub still : (hosts : Hosts) → AreKept hosts w k → settled hosts w k (n ∷ []) ≡ record { memos = k; runs = [] }
+  pub value : (hosts : Hosts) → AreKept hosts w k → o ≡ value_of hosts w n []

@@ -1,15 +1,70 @@
 // Names that were heard at another time, heard again.
-ghost use Rattle.std.specs.Prelude.{◌≡◌, ◌≤◌, [], length, take, IfOk, IfSome, OnOk};
+ghost use Rattle.std.specs.Prelude.{◌≡◌, ◌≤◌, [], length, take, true, Some, IfOk, IfSome, OnOk};
+ghost use Rattle.std.specs.Map.{keys_of};
+ghost use Rattle.signal_laws.specs.ReadLaws.{with_name};
 ghost use Rattle.tpl_hearing.specs.Heard.{scene, CanSettle, Hears};
-ghost use Rattle.tpl_hearing.specs.HeardAgain.{heard_by, AreCompared, AreHeardAgain, IsFront};
+ghost use Rattle.tpl_hearing.specs.HeardAgain.{heard_by, AreCompared, AreHeardAgain, IsAsBefore, IsCompared, IsFront};
 
 use crate::comparisons::{Rehearing, hear_compared};
-use crate::outcomes::{Outcomes, settle_name};
+use crate::outcomes::{Outcomes, settle_again};
 use sig_base::{NoMemory, NodeId};
 use sig_computed::RunNote;
 use sig_host::{Lent, Shelf};
 use sig_nodes::Graph;
 use std::alloc::Global;
+
+// Whether this is the name.
+fn is_it(last: Option<NodeId>, id: NodeId) -> bool
+    ensures { result ≡ true → last ≡ Some id }
+{
+    match last {
+        Some(name) => name == id,
+        None => false,
+    }
+}
+
+// The name, where it has the outcome of before.
+fn if_same(same: bool, id: NodeId) -> Option<NodeId>
+    ensures { IfSome result (λ name. (name ≡ id) × (same ≡ true)) }
+{
+    if same {
+        return Some(id);
+    }
+    None
+}
+
+// Hears the next name; whether it has the outcome of before. One that was the last before it as well, and had that, is passed over at a look. Its
+// clauses are those of hearing a name, and what is known of the last one.
+fn hear_next(
+    graph: &mut Graph,
+    shelf: &mut Shelf,
+    before: &Outcomes,
+    hearing: &mut Rehearing,
+    last: &mut Option<NodeId>,
+    id: NodeId,
+    notes: &mut Vec<RunNote>,
+) -> Result<bool, NoMemory>
+    requires can { CanSettle (scene graph.old (⟦<Shelf as Lent>⟧.asked shelf.old) notes.old.items) }
+    requires counted { ⟦<Shelf as Lent>⟧.counted shelf.old }
+    requires compared { AreCompared before.now hearing.old }
+    requires last { IfSome last.old (IsAsBefore before.now hearing.old.heard) }
+    ensures same { IfOk result (λ same. IsCompared before.now hearing.new.heard id same) }
+    ensures names { OnOk result (keys_of hearing.new.heard ≡ with_name (keys_of hearing.old.heard) id) }
+    ensures after { OnOk result (Hears
+        (scene graph.old (⟦<Shelf as Lent>⟧.asked shelf.old) notes.old.items) (scene graph.new (⟦<Shelf as Lent>⟧.asked shelf.new) notes.new.items)
+        (λ hosts. ⟦<Shelf as Lent>⟧.answers hosts shelf.old) (λ hosts. ⟦<Shelf as Lent>⟧.answers hosts shelf.new) hearing.old.heard hearing.new.heard) }
+    ensures can { OnOk result (CanSettle (scene graph.new (⟦<Shelf as Lent>⟧.asked shelf.new) notes.new.items)) }
+    ensures counted { OnOk result (⟦<Shelf as Lent>⟧.counted shelf.new) }
+    ensures compared { OnOk result (AreCompared before.now hearing.new) }
+    ensures last { OnOk result (IfSome last.new (IsAsBefore before.now hearing.new.heard)) }
+{
+    if is_it(*last, id) {
+        return Ok(true);
+    }
+    let same = hear_compared(graph, shelf, before, hearing, id, notes)?;
+    *last = if_same(same, id);
+    Ok(same)
+}
 
 /// Hears names in order, up to the first that hasn't the outcome that was heard of it before; whether there is none.
 ///
@@ -35,8 +90,9 @@ pub fn hear_again(
     ensures counted { OnOk result (⟦<Shelf as Lent>⟧.counted shelf.new) }
     ensures compared { OnOk result (AreCompared before.now hearing.new) }
 {
+    let mut last = None;
     for id in ids {
-        if !hear_compared(graph, shelf, before, hearing, *id, notes)? {
+        if !hear_next(graph, shelf, before, hearing, &mut last, *id, notes)? {
             return Ok(false);
         }
     }
@@ -82,8 +138,7 @@ pub fn hear_all_again(
 {
     for place in 0..before.count() {
         let (id, was) = before.at(place);
-        let outcome = settle_name(graph, shelf, id, notes)?;
-        if !outcome.same(was) {
+        if let Some(outcome) = settle_again(graph, shelf, id, was, notes)? {
             let mut hearing = front(*notes.allocator(), before, place)?;
             hearing.put(id, outcome, false)?;
             return Ok(Some(hearing));

@@ -1,13 +1,11 @@
 // What is heard of names while a page is brought up to date, beside what was heard of them before.
-ghost use Rattle.std.specs.Prelude.{◌≡◌, ◌++◌, ◌∷◌, [], nat_eq, true, None, Some, IfOk, OnOk};
-ghost use Rattle.std.specs.Map.{keys_of, lookup};
-ghost use Rattle.indexmap.specs.IndexMap.{insert_entry};
+ghost use Rattle.std.specs.Prelude.{◌≡◌, ◌++◌, ◌∷◌, [], slice_get, true, None, Some, IfNone, IfOk, IfSome, OnOk};
+ghost use Rattle.std.specs.Map.{keys_of};
 ghost use Rattle.signal_laws.specs.ReadLaws.{with_name};
 ghost use Rattle.tpl_hearing.specs.Heard.{heard_of, scene, CanSettle, Hears, Outcomes as Heard};
-ghost use Rattle.tpl_hearing.specs.HeardAgain.{AreCompared, IsCompared};
+ghost use Rattle.tpl_hearing.specs.HeardAgain.{AllCompared, AreCompared, AreSame, IsAsBefore, IsCompared};
 
-use crate::outcomes::{Outcomes, hear};
-use indexmap::IndexMap;
+use crate::outcomes::{Outcomes, settle_compared};
 use sig_base::{NoMemory, NodeId, Outcome};
 use sig_computed::RunNote;
 use sig_host::{Lent, Shelf};
@@ -15,14 +13,29 @@ use sig_nodes::Graph;
 use std::alloc::Global;
 use std::marker::Model;
 
-/// Of which names it is known whether they have the outcomes of before.
+// It is noted up to a place that this is known of a name: it holds wherever it stands.
+fn fill(
+    noted: &mut Vec<(NodeId, bool)>,
+    count: usize,
+    id: NodeId,
+    same: bool,
+) -> Result<(), NoMemory>
+    ensures { (before heard : Heard) → AllCompared before heard noted.old.items → IsCompared before heard id same → OnOk result (AllCompared before heard noted.new.items) }
+{
+    for _ in noted.len()..count {
+        noted.push((id, same))?;
+    }
+    Ok(())
+}
+
+/// Of which names it is known whether they have the outcomes of before: of the name that was heard at a place it is noted there, if anywhere.
 pub struct Comparisons {
-    same: IndexMap<NodeId, bool>,
+    noted: Vec<(NodeId, bool)>,
 }
 
 impl Drop for Comparisons {
     fn drop(self) {
-        let Comparisons { same: _ } = self;
+        let Comparisons { noted: _ } = self;
     }
 }
 
@@ -31,7 +44,7 @@ impl Model for Comparisons {
 
     ghost Value = { names.Comparisons };
 
-    ghost view = { λ c. c.same.entries };
+    ghost view = { λ c. c.noted.items };
 }
 
 impl Comparisons {
@@ -40,7 +53,7 @@ impl Comparisons {
         ensures { result ≡ [] }
     {
         Comparisons {
-            same: IndexMap::new(alloc),
+            noted: Vec::new(alloc),
         }
     }
 
@@ -48,22 +61,29 @@ impl Comparisons {
     fn with_room(alloc: Global, count: usize) -> Result<Comparisons, NoMemory>
         ensures { IfOk result (λ c. c ≡ []) }
     {
-        let same = IndexMap::with_capacity(alloc, count)?;
-        Ok(Comparisons { same })
+        let noted = Vec::with_capacity(alloc, count)?;
+        Ok(Comparisons { noted })
     }
 
-    /// Whether a name has the outcome of before, where that is known.
-    pub(crate) fn known(&self, id: NodeId) -> Option<bool>
-        ensures { result ≡ lookup (nat_eq id) self.now }
+    // Whether a name that was heard at a place has the outcome of before, where that is known.
+    fn known(&self, place: usize, id: NodeId) -> Option<bool>
+        ensures { IfSome result (λ same. slice_get self.now place ≡ Some (id, same)) }
     {
-        self.same.get(&id).copied()
+        if place >= self.noted.len() {
+            return None;
+        }
+        let (name, same) = self.noted[place];
+        if name == id {
+            return Some(same);
+        }
+        None
     }
 
-    // It is known of this name.
-    fn put(&mut self, id: NodeId, same: bool) -> Result<(), NoMemory>
-        ensures { OnOk result (self.new ≡ insert_entry nat_eq self.old id same) }
+    // It is known of the name that was heard at a place.
+    fn put(&mut self, place: usize, id: NodeId, same: bool) -> Result<(), NoMemory>
+        ensures { (before heard : Heard) → AllCompared before heard self.old → IsCompared before heard id same → OnOk result (AllCompared before heard self.new) }
     {
-        self.same.insert(id, same)?;
+        fill(&mut self.noted, place.saturating_add(1), id, same)?;
         Ok(())
     }
 }
@@ -103,6 +123,45 @@ impl Rehearing {
         Ok(Rehearing { heard, compared })
     }
 
+    /// Whether a name that was heard has the outcome of before; nothing where it wasn't heard.
+    pub fn known(&self, before: &Outcomes, id: NodeId) -> Option<bool>
+        requires { AreCompared before.now self.now }
+        ensures same { IfSome result (λ same. IsCompared before.now self.now.heard id same) }
+        ensures none { IfNone result (heard_of self.now.heard id ≡ None) }
+    {
+        let Some((place, outcome)) = self.heard.find(id) else {
+            return None;
+        };
+        match self.compared.known(place, id) {
+            Some(same) => Some(same),
+            None => Some(before.had(id, outcome)),
+        }
+    }
+
+    // Whether a name was heard and has the outcome of before.
+    fn is_same(&self, before: &Outcomes, id: NodeId) -> bool
+        requires { AreCompared before.now self.now }
+        ensures { result ≡ true → IsAsBefore before.now self.now.heard id }
+    {
+        match self.known(before, id) {
+            Some(same) => same,
+            None => false,
+        }
+    }
+
+    /// Whether each of these names was heard before this call and has the outcome of before. Nothing is heard.
+    pub fn are_same(&self, before: &Outcomes, ids: &[NodeId]) -> bool
+        requires { AreCompared before.now self.now }
+        ensures { result ≡ true → AreSame before.now ids.now self.now.heard self.now.heard }
+    {
+        for id in ids {
+            if !self.is_same(before, *id) {
+                return false;
+            }
+        }
+        true
+    }
+
     /// Puts a name behind the others, of which it is known whether it has the outcome of before.
     ///
     /// # Errors
@@ -113,8 +172,9 @@ impl Rehearing {
         ensures heard { OnOk result (self.new.heard ≡ self.old.heard ++ (id, outcome) ∷ []) }
         ensures compared { (before : Heard) → AreCompared before self.old → (same ≡ true → heard_of before id ≡ Some outcome) → OnOk result (AreCompared before self.new) }
     {
+        let place = self.heard.count();
         self.heard.put(id, outcome)?;
-        self.compared.put(id, same)?;
+        self.compared.put(place, id, same)?;
         Ok(())
     }
 }
@@ -146,11 +206,11 @@ pub(crate) fn hear_compared(
     ensures counted { OnOk result (⟦<Shelf as Lent>⟧.counted shelf.new) }
     ensures compared { OnOk result (AreCompared before.now hearing.new) }
 {
-    if let Some(same) = hearing.compared.known(id) {
+    if let Some(same) = hearing.known(before, id) {
         return Ok(same);
     }
-    let outcome = hear(graph, shelf, &mut hearing.heard, id, notes)?;
-    let same = before.had(id, &outcome);
-    hearing.compared.put(id, same)?;
+    let place = hearing.heard.count();
+    let (outcome, same) = settle_compared(graph, shelf, before, place, id, notes)?;
+    hearing.put(id, outcome, same)?;
     Ok(same)
 }

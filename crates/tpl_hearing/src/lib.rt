@@ -5,6 +5,7 @@ mod again;
 mod comparisons;
 mod evaluation;
 mod outcomes;
+mod still;
 
 pub use again::{hear_again, hear_all_again};
 pub use comparisons::{Comparisons, Rehearing};

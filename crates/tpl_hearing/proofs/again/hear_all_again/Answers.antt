@@ -1,4 +1,5 @@
 use Rattle.std.proofs.Common.{◌≡◌, ◌+◌, [], ◌∷◌, ◌++◌, None, take, sym, ap, subst, arith, ◌∙◌}
+use Rattle.std.specs.Prelude.{unwrap_or}
 use Rattle.std.proofs.lemmas.List.{take_all}
 use Rattle.tpl_hearing.specs.Heard.{Outcomes, heard_of}
 use Rattle.tpl_hearing.proofs.Fronts.{front_more, not_before}
@@ -17,21 +18,21 @@ put-requires g c =
     subst (λ (h : Outcomes). heard_of h c.at-id.result.0 ≡ None) (sym c.in_ok-hearing.ensures.front)
     (not_before c.args.before.now c.loop-place.place c.at-id.result.0 c.at-id.result.1.now c.count-place-end.ensures.once c.at-id.ensures.at)
 
-pub returns-then-not-same-clause-after : goal.returns-then-not-same-clause-after
-returns-then-not-same-clause-after g c =
+pub returns-in-Some-clause-after : goal.returns-in-Some-clause-after
+returns-in-Some-clause-after g c =
     then_heard _ _ _ _ _ _ _ _ _ c.loop-place.invariant.after
     (c.in_ok-outcome.ensures.after (take c.loop-place.place c.args.before.now) c.put.new.self.heard
-    (c.in_ok-put.ensures.heard ∙ ap (λ h. h ++ (c.at-id.result.0, c.in_ok-outcome.outcome) ∷ []) c.in_ok-hearing.ensures.front))
+    (c.in_ok-put.ensures.heard ∙ ap (λ h. h ++ (c.at-id.result.0, c.in-Some.outcome) ∷ []) c.in_ok-hearing.ensures.front
+    ∙ ap (λ o. take c.loop-place.place c.args.before.now ++ (c.at-id.result.0, unwrap_or o c.at-id.result.1.now) ∷ []) (sym c.in-Some.is)))
 
 pub loop-place-preserved : goal.loop-place-preserved
 loop-place-preserved g c =
     let front = take c.loop-place.place c.args.before.now in
-    let n = c.at-id.result.0 in
-    let more = front_more c.args.before.now c.loop-place.place n c.at-id.result.1.now c.at-id.ensures.at in
-    let same = c.same.ensures.exact.0 c.if-not-same.false in
+    let more = front_more c.args.before.now c.loop-place.place c.at-id.result.0 c.at-id.result.1.now c.at-id.ensures.at in
     record {
       after = then_heard _ _ _ _ _ _ _ _ _ c.loop-place.invariant.after
-          (c.in_ok-outcome.ensures.after front (take (c.loop-place.place + 1) c.args.before.now) (more ∙ ap (λ o. front ++ (n, o) ∷ []) (sym same)));
+          (c.in_ok-outcome.ensures.after front (take (c.loop-place.place + 1) c.args.before.now)
+          (more ∙ ap (λ o. front ++ (c.at-id.result.0, unwrap_or o c.at-id.result.1.now) ∷ []) (sym c.in_default.is)));
       can = c.in_ok-outcome.ensures.can;
       counted = c.in_ok-outcome.ensures.counted;
     }
