@@ -57,6 +57,11 @@ pub marks_on : (from p k : ℕ) (bs : List Bool) → ((q : ℕ) → from ≤ q �
     (q : ℕ) → from ≤ q → q < p + k → is_marked q bs ≡ true
 marks_on from p k bs before more q low high = elim (before_or q p) [ inl l ↦ before q low l | inr l ↦ more q l high ]
 
+-- from one place on to another, and from there on to a third
+pub joined_passes : (from mid to : ℕ) (bs : List Bool) → ((q : ℕ) → from ≤ q → q < mid → is_marked q bs ≡ true) →
+    ((q : ℕ) → mid ≤ q → q < to → is_marked q bs ≡ true) → (q : ℕ) → from ≤ q → q < to → is_marked q bs ≡ true
+joined_passes from mid to bs before more q low high = elim (before_or q mid) [ inl l ↦ before q low l | inr m ↦ more q m high ]
+
 -- ---- several are
 
 -- a mark that isn't set before isn't set after

@@ -3,6 +3,7 @@ ghost use Rattle.std.specs.Prelude.{◌≡◌, ◌⊎◌, ◌==◌, ◌+◌, ◌
 ghost use Rattle.std.specs.List.{AllByRecursion};
 ghost use Rattle.indexmap.specs.IndexMap.{get};
 ghost use Rattle.effect_tables.specs.Consistency.{AreRising};
+ghost use Rattle.effect_tables.specs.declared.heard.TheConstants.{MANY};
 ghost use Rattle.effect_tables.specs.Heard.{has_place, is_marked, reads_at, AreMarked, IsAdded, IsHeard, IsMissed, IsWoken};
 ghost use Rattle.effect_tables.specs.Placed.{effect_of};
 
@@ -66,6 +67,37 @@ fn are_eight(quiet: &[bool], place: usize) -> bool
     let front = are_four(quiet, place);
     let rest = are_four(quiet, place + 4);
     front & rest
+}
+
+// How many marks are joined at once where many are set.
+const MANY: usize = 64;
+
+// Whether so many are. They are joined in one loop without a test, so that wide instructions may take them together.
+fn are_many(quiet: &[bool], place: usize) -> bool
+    requires { place + MANY ≤ length quiet.now }
+    ensures { IsTrue result → AreMarked place MANY quiet.now }
+{
+    let mut all = true;
+    for at in 0..MANY {
+        let mark = quiet[place + at];
+        all = all & mark;
+    }
+    all
+}
+
+// A place behind this one and marks that are set, many at a time.
+fn past_many(quiet: &[bool], from: usize) -> usize
+    ensures on { from ≤ result }
+    ensures passed { (p : ℕ) → from ≤ p → p < result → is_marked p quiet.now ≡ true }
+{
+    let mut place = from;
+    'passing: while quiet.len().saturating_sub(place) >= MANY {
+        if !are_many(quiet, place) {
+            return place;
+        }
+        place += MANY;
+    }
+    place
 }
 
 // A place behind this one and marks that are set, eight at a time.
@@ -226,7 +258,8 @@ impl Heard {
         ensures on { from ≤ result }
         ensures passed { (p : ℕ) → from ≤ p → p < result → is_marked p self.now.quiet.items ≡ true }
     {
-        let near = past_eights(&self.quiet, from);
+        let far = past_many(&self.quiet, from);
+        let near = past_eights(&self.quiet, far);
         past_ones(&self.quiet, near)
     }
 
