@@ -145,11 +145,22 @@ impl Learnt {
         Ok(ended)
     }
 
+    /// Exchanges its lists, and a list of ids, for those that the graph keeps, which are empty and have room.
+    pub(crate) fn swap_lists(&mut self, graph: &mut Graph, ids: &mut Vec<NodeId>)
+        ensures graph { graph.new ≡ graph.old }
+        ensures ids { ids.new.items ≡ [] }
+    {
+        graph.swap_lists(&mut self.known, &mut self.reads, ids);
+    }
+
     // It has learnt nothing. The lists keep their room, so that what is learnt next asks for no memory where that had enough.
     fn forget(&mut self)
         ensures known { self.new.known ≡ [] }
         ensures reads { self.new.reads ≡ [] }
     {
+        if self.known.is_empty() {
+            return;
+        }
         self.known.clear();
         self.reads.clear();
     }

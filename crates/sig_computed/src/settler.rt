@@ -219,6 +219,7 @@ fn bring_up(
     let mut visited = Visited::new(alloc);
     let mut stack = Vec::new(alloc);
     let mut frame = Open::new(alloc, id);
+    visited.swap_lists(graph, &mut frame.learnt);
     let mut going = first(graph, &mut frame);
     while going {
         let turn = next_turn(alloc, graph, shelf, &mut visited, &mut frame)?;
@@ -232,6 +233,7 @@ fn bring_up(
             turn,
         )?;
     }
+    visited.swap_lists(graph, &mut frame.learnt);
     Ok(())
 }
 

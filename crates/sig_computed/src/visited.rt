@@ -2,8 +2,10 @@
 ghost use Rattle.std.specs.Prelude.{◌≡◌, ℕ, ◌∷◌, ◌++◌, [], true, IfOk, OnOk};
 ghost use Rattle.signal_model.specs.Signals.{is_in};
 
+use crate::frames::Learnt;
 use indexmap::IndexSet;
 use sig_base::{NoMemory, NodeId};
+use sig_nodes::Graph;
 use std::alloc::Global;
 use std::marker::Model;
 
@@ -71,5 +73,14 @@ impl Visited {
     {
         self.late.push(id)?;
         Ok(())
+    }
+
+    /// Exchanges its list, and those of what a run has learnt, for the ones that the graph keeps, which are empty and have room. Of none it
+    /// leaves none.
+    pub(crate) fn swap_lists(&mut self, graph: &mut Graph, learnt: &mut Learnt)
+        ensures graph { graph.new ≡ graph.old }
+        ensures none { self.old ≡ [] → self.new ≡ [] }
+    {
+        learnt.swap_lists(graph, &mut self.late);
     }
 }

@@ -1,15 +1,18 @@
-use Rattle.std.proofs.Common.{◌≡◌, ◌+◌, ◌<◌, ◌≤◌, ◌++◌, true, false, List, [], ◌∷◌, map, length, is_some, sym, ap, ◌∙◌, subst, arith}
+use Rattle.std.proofs.Common.{◌≡◌, ℕ, ◌+◌, ◌<◌, ◌≤◌, ◌++◌, true, false, List, [], ◌∷◌, map, length, is_some, sym, ap, ◌∙◌, subst, arith}
 use Rattle.std.proofs.lemmas.List.{length-map}
 use Rattle.std.proofs.lemmas.List.Elements.{All-append, All-same}
 use Rattle.signal_model.specs.Signals.{is_computed, is_in, standing}
 use Rattle.signal_model.specs.Sound.{standing_outcome}
 use Rattle.signal_model.specs.Kept.{AreKept}
 use Rattle.signal_model.specs.Settling.{settled}
+use Rattle.signal_model.specs.Recipes.{Hosts}
 use Rattle.sig_host.specs.Hosts.{HostPlace}
+use Rattle.sig_nodes.specs.States as states
 use Rattle.sig_nodes.specs.States.{is_computing}
-use Rattle.sig_computed.specs.Steps.{frame_names}
-use Rattle.sig_computed.specs.Notes.{note_of, IsNoteGiven}
-use Rattle.sig_computed.specs.Turns.{first_stack, notes_of}
+use Rattle.sig_computed.specs.Steps.{Frame, frame_names}
+use Rattle.sig_computed.specs.Notes.{Note, note_of, IsNoteGiven}
+use Rattle.sig_computed.specs.Scenes.{Scene, Settles}
+use Rattle.sig_computed.specs.Turns.{first_stack, notes_of, HasFirst}
 use Rattle.sig_computed.specs.Views.{frame_of, held, move_of, tops}
 use Rattle.sig_computed.proofs.Stacks.{HasStack, frames_are, notes_stay}
 use Rattle.sig_computed.proofs.Progresses.{in_evaluating}
@@ -21,19 +24,31 @@ use Rattle.sig_computed.proofs.Wholes.{IsWhole, first_whole, last_whole}
 use Rattle.sig_computed.proofs.Names.{can_still}
 use Rattle.sig_computed.proofs.settler.bring_up.Goals as goal
 
+-- the same of a graph that is the same
+first_same : (g h x : states.Seen) (n : ℕ) (fs : List Frame) → g ≡ x → HasFirst g h n fs → HasFirst x h n fs
+first_same g h x n fs e first = subst (λ (y : states.Seen). HasFirst y h n fs) e first
+
+settles_same : (old : Scene) (g h : states.Seen) (asked : List HostPlace) (notes : List Note) (before after : Hosts → Type 0) (names : Hosts → List ℕ) → g ≡ h →
+    Settles old (record { graph = h; asked = asked; notes = notes }) before after names → Settles old (record { graph = g; asked = asked; notes = notes }) before after names
+settles_same old g h asked notes before after names e s =
+    subst (λ (y : states.Seen). Settles old (record { graph = y; asked = asked; notes = notes }) before after names) (sym e) s
+
 pub first-going-requires-clause-live : goal.first-going-requires-clause-live
 first-going-requires-clause-live g c =
-    subst (λ n. is_computed (standing c.args.graph.now.state.signals n) ≡ true) (sym c.new-frame.ensures)
-    c.requires.live
+    (λ i. is_computed (standing (c.swap_lists.ensures.graph i).state.signals (c.new-frame.ensures i))) ∙ c.requires.live
+
+pub first-going-requires-clause-idle : goal.first-going-requires-clause-idle
+first-going-requires-clause-idle g c = λ m. (λ i. is_computing (c.swap_lists.ensures.graph i).state m) ∙ c.requires.idle m
 
 pub loop-going-init : goal.loop-going-init
 loop-going-init g c =
-    let e = c.first-going.ensures.graph in
+    let swapped = c.swap_lists.ensures.graph in
+    let e = first_same c.swap_lists.new.graph c.first-going.new.graph c.args.graph.now _ _ swapped c.first-going.ensures.graph in
     let none : tops c.new-stack.result.items ≡ [] = ap tops c.new-stack.ensures.items in
     let w = c.args.graph.now.state.signals in
     let k = c.args.graph.now.state.memos in
     let here = ap (held c.first-going.result c.first-going.new.frame) none in
-    let is = here ∙ c.first-going.ensures.stack ∙ ap (first_stack w k) c.new-frame.ensures in
+    let is = here ∙ c.first-going.ensures.stack ∙ (λ i. first_stack (swapped i).state.signals (swapped i).state.memos (c.new-frame.ensures i)) in
     record {
       signals = e.signals;
       seats = e.seats;
@@ -49,9 +64,9 @@ loop-going-init g c =
           subst (λ x. x)
           (λ i. IsWhole hosts w k kept c.args.graph.now.state.looked places (c.args.id ∷ []) (sym e.memos i) c.first-going.new.graph.state.looked places
           (map note_of c.args.notes.now.items) (map note_of c.args.notes.now.items)
-          c.new-visited.result (sym is i))
+          c.swap_lists.new.self (sym is i))
           (first_whole hosts w k c.args.graph.now.state.looked c.first-going.new.graph.state.looked places c.args.id (map note_of c.args.notes.now.items)
-          c.new-visited.result kept c.new-visited.ensures
+          c.swap_lists.new.self kept (c.swap_lists.ensures.none c.new-visited.ensures)
           c.requires.live
           (subst (λ fs. c.first-going.new.graph.state.looked ≤ c.args.graph.now.state.looked + 1 + length fs) (sym here ∙ is) e.steps));
     }
@@ -179,7 +194,8 @@ returns-clause-value g c = λ hosts all kept.
     let x = last_whole hosts w c.args.graph.now.state.memos c.loop-going.graph.state.memos c.args.graph.now.state.looked c.loop-going.graph.state.looked _ _ c.args.id
     (map note_of c.args.notes.now.items) (map note_of c.loop-going.notes.items) c.loop-going.visited
     (held c.loop-going.going c.loop-going.frame (tops c.loop-going.stack.items)) kept none (i.whole hosts all kept) in
-    ap (λ y. standing_outcome y c.loop-going.graph.state.memos c.args.id) i.signals ∙ x.value
+    (λ j. standing_outcome (c.swap_lists-2.ensures.graph j).state.signals (c.swap_lists-2.ensures.graph j).state.memos c.args.id)
+    ∙ ap (λ y. standing_outcome y c.loop-going.graph.state.memos c.args.id) i.signals ∙ x.value
 
 pub returns-clause-settles : goal.returns-clause-settles
 returns-clause-settles g c =
@@ -192,7 +208,7 @@ returns-clause-settles g c =
     let new = length-map c.loop-going.notes.items note_of in
     let most = asked_most w _ _ (length c.args.notes.now.items) (length c.loop-going.notes.items) now none i.asked in
     let worn = i.worn in
-    record {
+    settles_same _ c.swap_lists-2.new.graph c.loop-going.graph _ _ _ _ _ c.swap_lists-2.ensures.graph (record {
       settled = λ hosts all kept. (last_whole hosts w k c.loop-going.graph.state.memos c.args.graph.now.state.looked c.loop-going.graph.state.looked _ _ c.args.id
           (map note_of c.args.notes.now.items) (map note_of c.loop-going.notes.items) c.loop-going.visited now kept none (i.whole hosts all kept)).settling;
       kept = λ hosts all kept. subst (λ s. AreKept hosts s c.loop-going.graph.state.memos) (sym i.signals) (last_whole hosts w k c.loop-going.graph.state.memos c.args.graph.now.state.looked c.loop-going.graph.state.looked _ _ c.args.id
@@ -214,7 +230,7 @@ returns-clause-settles g c =
       named = λ all.
           notes_stay c.args.graph.now c.loop-going.graph (map note_of c.loop-going.notes.items) i.given (i.named all);
       worn = omega (arith, worn, old, new);
-    }
+    })
 
 pub returns-clause-can : goal.returns-clause-can
 returns-clause-can g c = λ can. can_still _ _ _ _ _ (returns-clause-settles g c) can
