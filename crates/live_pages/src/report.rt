@@ -16,6 +16,9 @@ use sig_base::{Name, NoMemory};
 use std::alloc::Global;
 use tpl_live::Page;
 
+// How many bytes of HTML a child of the root mostly has, or more.
+const LIKELY_BYTES: usize = 16;
+
 /// The HTML of a tree.
 ///
 /// # Errors
@@ -24,7 +27,8 @@ use tpl_live::Page;
 pub fn tree_html(alloc: Global, tree: &Tree) -> Result<PageBytes, NoMemory>
     ensures { IfOk result (λ html. html ≡ html_of tree.now) }
 {
-    let mut out = Vec::new(alloc);
+    let room = tree.children(0).len().saturating_mul(LIKELY_BYTES);
+    let mut out = Vec::with_capacity(alloc, room)?;
     tree.write_html(&mut out)?;
     let html = PageBytes::of(alloc, out)?;
     Ok(html)
