@@ -6,9 +6,11 @@ mod Grammars
 mod Held
 mod Items
 mod Lengths
+mod Naturals
 mod Heads
 mod Numbers
 mod Blocks
+mod Briefs
 mod Commonest
 mod Plain
 mod Spellings

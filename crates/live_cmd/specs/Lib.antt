@@ -1,4 +1,5 @@
 pub mod Blocks
+pub mod Briefs
 pub mod Codes
 pub mod Grammar
 pub mod Items

@@ -21,21 +21,21 @@ fn get(alloc: Global, known: &mut KnownNames, text: &[u8]) -> Result<Item, Unrea
     Ok(Item::Do(Command::Named { verb, name }))
 }
 
-// What stands before the first blank, and what behind it.
-fn parted(text: &[u8]) -> Option<(&[u8], &[u8])>
-    ensures { IfSome result (λ p. text.now ≡ p.0.now ++ 32 ∷ p.1.now) }
+/// What stands before the first of these bytes, and what behind it.
+pub(crate) fn parted(text: &[u8], byte: u8) -> Option<(&[u8], &[u8])>
+    ensures { IfSome result (λ p. text.now ≡ p.0.now ++ byte ∷ p.1.now) }
 {
-    let at = text.iter().position(|b| *b == b' ')?;
+    let at = text.iter().position(|b| *b == byte)?;
     let (front, rest) = text.split_at(at);
-    let (blank, behind) = rest.split_first()?;
-    if *blank != b' ' {
+    let (first, behind) = rest.split_first()?;
+    if *first != byte {
         return None;
     }
     Some((front, behind))
 }
 
-// The whole number that a text is.
-fn whole(text: &[u8]) -> Option<i64>
+/// The whole number that a text is.
+pub(crate) fn whole(text: &[u8]) -> Option<i64>
     ensures { IfSome result (λ z. FitsSigned w64 z × (text.now ≡ signed_decimal z)) }
 {
     let Some(value) = integer(text) else {
@@ -48,7 +48,7 @@ fn whole(text: &[u8]) -> Option<i64>
 fn set(alloc: Global, known: &mut KnownNames, text: &[u8]) -> Result<Item, Unread>
     ensures { (k : ℕ) → IfOk result (λ i. IsPlain (k, codes "set " ++ text.now) i) }
 {
-    let Some((name, number)) = parted(text) else {
+    let Some((name, number)) = parted(text, b' ') else {
         return Err(Unread::NotThere);
     };
     let Some(value) = whole(number) else {
@@ -85,8 +85,8 @@ fn behind(line: &[u8], byte: u8) -> Option<&[u8]>
     if *first == byte { Some(rest) } else { None }
 }
 
-// What stands behind a word of three bytes and a blank.
-fn behind_word(line: &[u8], first: u8, second: u8, third: u8) -> Option<&[u8]>
+/// What stands behind a word of three bytes and a blank.
+pub(crate) fn behind_word(line: &[u8], first: u8, second: u8, third: u8) -> Option<&[u8]>
     ensures { IfSome result (λ rest. line.now ≡ first ∷ second ∷ third ∷ 32 ∷ rest.now) }
 {
     let rest = behind(line, first)?;

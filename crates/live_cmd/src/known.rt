@@ -86,6 +86,17 @@ impl KnownNames {
         Ok(())
     }
 
+    /// The name that a text is, where it is known.
+    pub(crate) fn known(&self, text: &[u8]) -> Result<Option<Name>, NoMemory>
+        ensures { IfOk result (λ found. IfSome found (λ n. Some n ≡ name_of (word text.now))) }
+    {
+        let place = place_of(text, self.names.len());
+        let Some(name) = known_at(&self.names, place, text) else {
+            return Ok(None);
+        };
+        Ok(Some(name.copy()?))
+    }
+
     /// The name that a text is, which is known from then on.
     pub(crate) fn name(&mut self, alloc: Global, text: &[u8]) -> Result<Name, Unread>
         ensures { IfOk result (λ n. Some n ≡ name_of (word text.now)) }
