@@ -6,4 +6,5 @@ mod names;
 mod refusals;
 
 pub use life::{is_page_among, lives};
-pub use names::Names;
+pub use names::{Names, number_meant};
+pub use refusals::refusal_at;

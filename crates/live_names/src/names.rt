@@ -1,5 +1,6 @@
 // The names that were made.
 ghost use Rattle.std.specs.Prelude.{◌≡◌, ◌++◌, ◌∷◌, [], None, Some, IfSome, OnOk};
+ghost use Rattle.std.specs.Option.{option_map_or};
 ghost use Rattle.live_model.specs.Names.{meaning_of, number_of};
 
 use indexmap::IndexMap;
@@ -31,6 +32,16 @@ impl Model for Names {
     ghost Value = { plain.Names };
 
     ghost view = { λ n. n.meanings.entries };
+}
+
+/// The number of what a name stands for, 0 where it stands for nothing.
+pub fn number_meant(meaning: Option<Meaning>) -> u128
+    ensures { result ≡ option_map_or (λ m. m.number) meaning 0 }
+{
+    match meaning {
+        Some(meaning) => meaning.number,
+        None => 0,
+    }
 }
 
 impl Names {
@@ -71,10 +82,7 @@ impl Names {
     pub fn number_of(&self, name: &Name) -> u128
         ensures { result ≡ number_of self.now name.now }
     {
-        match self.meaning_of(name) {
-            Some(meaning) => meaning.number,
-            None => 0,
-        }
+        number_meant(self.meaning_of(name))
     }
 
     /// Makes a new name, last, for that of this number among those of its kind.

@@ -48,8 +48,12 @@ fn misuse(world: &World, used: &Use, meaning: Meaning) -> Result<Option<Refusal>
     Ok(Some(Refusal::Kind(used.name.copy()?)))
 }
 
-// Why a name is refused at its place, if it is.
-fn refusal_at(
+/// Why a name is refused at its place, if it is, by what it stands for.
+///
+/// # Errors
+///
+/// `NoMemory` where memory ran out.
+pub fn refusal_at(
     world: &World,
     used: &Use,
     meaning: Option<Meaning>,
