@@ -59,6 +59,11 @@ unfolding still
 lines_untraced true e is front es h = absurd cc
 lines_untraced false e is front es h = untraced front es h
 
+-- lines are printed of nothing but what items tell
+pub lines_items : (trace : Bool) (i : Item) (is : List Item) (es : List Entry) → still (report.Lines trace) (i ∷ is) es ≡ still (report.Lines trace) is es
+unfolding still
+lines_items trace i is es = refl
+
 -- the end
 pub summary_ended : (n : ℕ) (counts : Counts) (page old new : List ℕ) → new ≡ old ++ summary_text n counts page → new ≡ old ++ still (report.Summary n counts page) [] []
 unfolding still

@@ -80,9 +80,10 @@ impl Report {
         }
     }
 
-    /// Whether it leaves out what is told of a trace.
+    /// Whether it leaves out what is told of a trace. Then it takes in nothing of an item but what that tells.
     pub fn is_untraced(&self) -> bool
-        ensures { result ≡ true → (is : List AnItem) (runs es : List AnEntry) → AreTraced runs → still self.now is (runs ++ es) ≡ still self.now is es }
+        ensures items { result ≡ true → (i : AnItem) (is : List AnItem) (es : List AnEntry) → still self.now (i ∷ is) es ≡ still self.now is es }
+        ensures runs { result ≡ true → (is : List AnItem) (runs es : List AnEntry) → AreTraced runs → still self.now is (runs ++ es) ≡ still self.now is es }
     {
         match self {
             Report::Lines { trace } => !*trace,

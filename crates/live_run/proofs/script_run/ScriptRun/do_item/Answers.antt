@@ -16,7 +16,7 @@ returns-clause-did g c = λ hosts all sound.
         took = λ is fs.
             (rw c.deref.ensures.value at c.in_ok-take_entries.ensures.prints is fs)
             ∙ ap (λ (l : List ℕ). c.args.self.now.out.items ++ l)
-            (sym (left_out c.is_untraced-traced.result c.take_item.new.self t.front t.hidden t.whole c.is_untraced-traced.ensures is (es ++ fs))
+            (sym (left_out c.is_untraced-traced.result c.take_item.new.self t.front t.hidden t.whole c.is_untraced-traced.ensures.runs is (es ++ fs))
             ∙ c.take_item.ensures.prints is (t.front ++ (es ++ fs))
             ∙ ap (λ (xs : List Entry). still c.args.self.now.report (c.args.item ∷ is) xs) (sym (append_assoc t.front es fs)));
       },
