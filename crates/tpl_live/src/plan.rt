@@ -131,6 +131,7 @@ fn staying(alloc: Global, marks: &[Mark]) -> Result<Vec<u64>, NoMemory>
 {
     let mut numbers = Vec::new(alloc);
     for mark in marks {
+        numbers.reserve(mark.children.len())?;
         put_all_staying(&mark.children, &mut numbers)?;
     }
     Ok(numbers)

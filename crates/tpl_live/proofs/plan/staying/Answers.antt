@@ -15,7 +15,7 @@ loop-mark-preserved c =
     let x = c.mark-item.result in
     one_more (λ (m : Marked). numbers_staying m.children) (mark_of x) (map mark_of (drop i xs)) (map mark_of (drop (i + 1) xs)) (children_staying (map mark_of xs))
     c.loop-mark.numbers.items c.put_all_staying.new.out.items (left_split mark_of xs i x c.loop-mark-test.true c.mark-item.is)
-    (c.in_ok-put_all_staying.ensures ∙ ap (λ z. c.loop-mark.numbers.items ++ numbers_staying (map child_of z)) c.deref.ensures.value) c.loop-mark.invariant
+    (c.in_ok-put_all_staying.ensures ∙ (λ j. c.in_ok-reserve.ensures.items j ++ numbers_staying (map child_of (c.deref.ensures.value j)))) c.loop-mark.invariant
 
 pub returns : goal.returns
 returns c =
