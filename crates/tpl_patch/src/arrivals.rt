@@ -126,7 +126,7 @@ pub fn row_of(alloc: Global, next: u64, children: &[Child]) -> Result<Row, NoMem
     ensures numbers { IfOk result (λ r. r.numbers.items ≡ next_numbers next (map child_of children.now)) }
     ensures coming { IfOk result (λ r. nodes_of r.coming ≡ with_nodes (record { nodes = none; next = next }) (arrivals (map child_of children.now))) }
 {
-    let mut numbers = Vec::new(alloc);
+    let mut numbers = Vec::with_capacity(alloc, children.len())?;
     let subs = Vec::new(alloc);
     let mut coming = Nodes { subs, next };
     for child in children {

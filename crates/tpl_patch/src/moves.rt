@@ -1,9 +1,10 @@
 // The operations on the children of nodes that stay.
-ghost use Rattle.std.specs.Prelude.{◌≡◌, ◌++◌, ◌∷◌, ◌<◌, ℕ, suc, List, length, map, slice_get, Some, OnOk, IfOk};
+ghost use Rattle.std.specs.Prelude.{◌≡◌, ◌++◌, ◌∷◌, [], ◌<◌, ℕ, suc, List, length, map, slice_get, Some, OnOk, IfOk};
 ghost use Rattle.keyed_each.specs.declared.places.RowStep.{RowStep};
 ghost use Rattle.page_model.specs.Edits.{siblings};
 ghost use Rattle.page_model.specs.Forest.{Forest, kids};
 ghost use Rattle.page_model.specs.Labels.{Kind};
+ghost use Rattle.page_model.specs.Replay.{OpMove};
 ghost use Rattle.page_ops.specs.Ops.{op_of};
 ghost use Rattle.page_tree.specs.Subs.{side_by_side, sub_tree};
 ghost use Rattle.tpl_model.specs.NextPage.Children.{children_moved};
@@ -41,6 +42,14 @@ fn put_arrival(
     Ok(())
 }
 
+// Appends the move of a child to a place.
+fn put_move(number: u64, place: usize, ops: &mut Vec<Op>) -> Result<(), NoMemory>
+    ensures { OnOk result (map op_of ops.new.items ≡ map op_of ops.old.items ++ OpMove number place ∷ []) }
+{
+    ops.push(Op::Move(number, place as u64))?;
+    Ok(())
+}
+
 // The step for the child of this number at this place; what comes is taken from these subtrees in order.
 fn put_step(
     parent: u64,
@@ -57,7 +66,7 @@ fn put_step(
     match step {
         RowStep::Keep => Ok(()),
         RowStep::Move(_) => {
-            ops.push(Op::Move(number, place as u64))?;
+            put_move(number, place, ops)?;
             Ok(())
         }
         RowStep::Insert(_) => {

@@ -8,7 +8,7 @@ use Rattle.tpl_patch.proofs.Subtrees.{child_came, child_numbered, child_sound, c
 use Rattle.tpl_patch.proofs.arrivals.row_of.Goals as goal
 
 pub loop-child-init : goal.loop-child-init
-loop-child-init c = record { sound = c.requires; numbers = rw c.new-numbers.ensures.items refl; put = rw c.new-subs.ensures.items refl }
+loop-child-init c = record { sound = c.requires; numbers = rw c.in_ok-numbers.ensures.items refl; put = rw c.new-subs.ensures.items refl }
 
 pub put_child-requires : goal.put_child-requires
 put_child-requires c =

@@ -1,17 +1,14 @@
-use Rattle.std.proofs.Common.{◌∷◌, ◌++◌, refl, sym, ap, ◌∙◌, map}
-use Rattle.page_model.specs.Replay.{OpMove}
+use Rattle.std.proofs.Common.{◌∷◌, ◌++◌, sym, ap, ◌∙◌, map}
 use Rattle.page_ops.specs.Ops.{op_of}
 use Rattle.tpl_patch.specs.Spelled.{spelled}
 use Rattle.tpl_patch.proofs.Operations.{move_spelled, side}
-use Rattle.tpl_patch.proofs.Said.{pushed}
 use Rattle.tpl_patch.proofs.moves.put_step.Goals as goal
 
-pub returns-in_ok-push-in-Move : goal.returns-in_ok-push-in-Move
-returns-in_ok-push-in-Move c = λ ns steps.
+pub returns-in_ok-put_move-in-Move : goal.returns-in_ok-put_move-in-Move
+returns-in_ok-put_move-in-Move c = λ ns steps.
     let os = map op_of c.args.ops.now.items in
     let u = side c.args.waiting.now.items in
-    move_spelled c.args.parent c.args.place c.args.number c.in-Move.field-0 ns steps u os (map op_of c.push.new.self.items)
-    (pushed c.args.ops.now.items c.push.new.self.items _ (OpMove c.args.number c.args.place) c.in_ok-push-in-Move.ensures.items refl)
+    move_spelled c.args.parent c.args.place c.args.number c.in-Move.field-0 ns steps u os (map op_of c.put_move.new.ops.items) c.in_ok-put_move-in-Move.ensures
     ∙ ap (λ z. os ++ spelled c.args.parent c.args.place (c.args.number ∷ ns) (z ∷ steps) u) (sym c.in-Move.is)
 
 pub returns-in_ok-put_arrival-in-Insert : goal.returns-in_ok-put_arrival-in-Insert
