@@ -8,7 +8,7 @@ pub enum Child {
     /// It stands there too, under this number.
     Kept(u64),
     /// It is new, with all below it.
-    New(Shown),
+    New(Box<Shown>),
 }
 
 /// A node that stands on the page and is shown again: its number there, what it says next, and its next children. The root says nothing.

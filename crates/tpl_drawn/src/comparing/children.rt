@@ -84,7 +84,8 @@ pub fn put_new(nodes: Vec<Shown>, children: &mut Vec<Child>) -> Result<(), NoMem
     ensures { OnOk result (map child_of children.new.items ≡ map child_of children.old.items ++ children_in (λ a. None) (all_shown nodes.items)) }
 {
     for node in nodes {
-        children.push(Child::New(node))?;
+        let coming = Box::new(*children.allocator(), node)?;
+        children.push(Child::New(coming))?;
     }
     Ok(())
 }

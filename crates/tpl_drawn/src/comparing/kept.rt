@@ -1,5 +1,5 @@
 // Lines whose nodes stay: the topmost are looked up by address, and nothing below them is gone over.
-ghost use Rattle.std.specs.Prelude.{◌≡◌, ◌++◌, ℕ, true, Option, Some, map, IfOk, OnOk};
+ghost use Rattle.std.specs.Prelude.{◌≡◌, ◌++◌, ℕ, true, None, Option, Some, map, IfOk, OnOk};
 ghost use Rattle.std.specs.Option.{option_copied};
 ghost use Rattle.sig_base.specs.Tables.{Table};
 ghost use Rattle.page_model.specs.Addresses.{address};
@@ -82,6 +82,30 @@ pub fn put_staying_text(
     Ok(())
 }
 
+// Appends an element that comes with all below it. It stands apart, as few come where many stay.
+#[inline(never)]
+fn put_coming(
+    alloc: Global,
+    line: usize,
+    key: Option<&Text>,
+    name: &Text,
+    attributes: &[(Text, Formula)],
+    inner: &Block,
+    memo: &PageMemo,
+    children: &mut Vec<Child>,
+) -> Result<(), NoMemory>
+    ensures { (known : ℕ → Option ℕ) → known (address line (option_copied key.entry)) ≡ None →
+        OnOk result (map child_of children.new.items ≡ map child_of children.old.items
+        ++ children_in known (node (address line (option_copied key.entry))
+        (label.Element name.now (values (waiting attributes.now) (attributes_of (kept memo.now))))
+        (nodes (option_copied key.entry) (block inner.now) (inside_of (kept memo.now))) none)) }
+{
+    let mut shown = Vec::new(alloc);
+    put_element(alloc, line, key, name, attributes, inner, memo, &mut shown)?;
+    put_new(shown, children)?;
+    Ok(())
+}
+
 /// Appends an element as a child, where children are listed, and answers its number where it has one; where it has none, it comes with all below it.
 ///
 /// # Errors
@@ -111,9 +135,7 @@ pub fn put_kept(
         return Ok(number);
     }
     let Some(number) = number else {
-        let mut shown = Vec::new(alloc);
-        put_element(alloc, line, key, name, attributes, inner, memo, &mut shown)?;
-        put_new(shown, children)?;
+        put_coming(alloc, line, key, name, attributes, inner, memo, children)?;
         return Ok(None);
     };
     children.push(Child::Kept(number))?;

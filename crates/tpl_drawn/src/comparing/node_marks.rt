@@ -87,8 +87,7 @@ fn put_nodes_made(
     let mut shown = Vec::new(alloc);
     put_shown(alloc, key, lines, memo, &mut shown)?;
     let mut marks = Vec::with_capacity(alloc, shown.len())?;
-    let mut near = 0;
-    let more = mark_all(alloc, shown, page, &mut near, &mut marks)?;
+    let more = mark_all(alloc, shown, page, &mut marks)?;
     put_children(listed, more, children)?;
     put_marks(alloc, marks, out)?;
     Ok(())

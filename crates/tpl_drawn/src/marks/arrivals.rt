@@ -15,7 +15,7 @@ fn put_child(child: Child, out: &mut Vec<Address>) -> Result<(), NoMemory>
     match child {
         Child::Kept(_) => Ok(()),
         Child::New(node) => {
-            put_address(node, out)?;
+            put_address(Box::into_inner(node), out)?;
             Ok(())
         }
     }

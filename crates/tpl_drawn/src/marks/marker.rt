@@ -10,13 +10,12 @@ use std::alloc::Global;
 use tpl_model::{Child, Mark, Shown};
 
 // A node as a child of one that stands on the page. Where it stands there too, it is marked, and so are all below it that do; what stands below
-// a new node is new. Nodes are mostly noted in document order, so each is looked for behind the one before it.
+// a new node is new.
 #[cycle(marking)]
 fn mark_node(
     alloc: Global,
     node: Shown,
     page: &PageNodes,
-    near: &mut usize,
     marks: &mut Vec<Mark>,
 ) -> Result<Child, NoMemory>
     ensures child { (known : ℕ → Option ℕ) → Knows (number_on page.now) known →
@@ -29,14 +28,17 @@ fn mark_node(
         look,
         children,
     } = node;
-    let Some(number) = page.number_near(near, &address) else {
-        return Ok(Child::New(Shown {
+    let number = page.number_of(address.line, address.key.as_ref())?;
+    let Some(number) = number else {
+        let coming = Shown {
             address,
             look,
             children,
-        }));
+        };
+        let coming = Box::new(alloc, coming)?;
+        return Ok(Child::New(coming));
     };
-    let children = mark_all(alloc, children, page, near, marks)?;
+    let children = mark_all(alloc, children, page, marks)?;
     marks.push(Mark {
         number,
         look: Some(look),
@@ -55,7 +57,6 @@ pub(crate) fn mark_all(
     alloc: Global,
     nodes: Vec<Shown>,
     page: &PageNodes,
-    near: &mut usize,
     marks: &mut Vec<Mark>,
 ) -> Result<Vec<Child>, NoMemory>
     ensures children { (known : ℕ → Option ℕ) → Knows (number_on page.now) known →
@@ -65,7 +66,7 @@ pub(crate) fn mark_all(
 {
     let mut children = Vec::with_capacity(alloc, nodes.len())?;
     for node in nodes {
-        let child = mark_node(alloc, node, page, near, marks)?;
+        let child = mark_node(alloc, node, page, marks)?;
         children.push(child)?;
     }
     Ok(children)

@@ -8,7 +8,6 @@ ghost use Rattle.tpl_drawn.specs.Lines.{line_at};
 use crate::marks::numbers::Numbers;
 use page_tree::Tree;
 use sig_base::{NoMemory, Text};
-use tpl_model::Address;
 
 /// A page's nodes: their tree, the numbers that were noted of addresses, and the next unused number.
 pub struct PageNodes {
@@ -46,15 +45,6 @@ impl PageNodes {
     {
         let noted = self.numbers.number_of(line, key)?;
         Ok(self.if_there(noted))
-    }
-    /// The number of the node of an address; none where no node of the page has it. It is looked for at a place of those that were noted first: that of an
-    /// address noted behind it is looked for at the next place.
-    pub(crate) fn number_near(&self, near: &mut usize, address: &Address) -> Option<u64>
-        ensures { result ≡ number_on self.now address.now }
-    {
-        let noted = self.numbers.number_near(near, address)?;
-        self.tree.child_count(noted)?;
-        Some(noted)
     }
     /// The line of the template from which a node below the root comes, counted from 1; none where the page has no such node.
     pub fn line(&self, number: u64) -> Option<usize>

@@ -200,29 +200,6 @@ impl Numbers {
         self.guess.found(place);
         Some(*number)
     }
-    // The number that was noted of an address, looked for at one place alone.
-    #[tactic(auto, using(crate::proofs::Numbered::Addresses::number_same))]
-    fn number_there(&self, place: usize, address: &Address) -> Option<u64>
-        ensures { IfSome result (λ n. number_at self.now address.now ≡ Some n) }
-    {
-        let (noted, number) = self.all.get_index(place)?;
-        if *noted == *address {
-            return Some(*number);
-        }
-        None
-    }
-    /// The number that was noted of an address, looked for at a place first; the place behind it is the next.
-    pub(crate) fn number_near(&self, near: &mut usize, address: &Address) -> Option<u64>
-        ensures { result ≡ number_at self.now address.now }
-    {
-        let Some(number) = self.number_there(*near, address) else {
-            let (place, _, number) = self.all.get_full(address)?;
-            *near = place.saturating_add(1);
-            return Some(*number);
-        };
-        *near = near.saturating_add(1);
-        Some(number)
-    }
     /// The line that was noted of a number.
     pub fn line(&self, number: u64) -> Option<usize>
         ensures { result ≡ line_at self.now number }

@@ -1,5 +1,6 @@
 -- The shape of a page as the code has it, and what is known of the nodes of it that stand on a page already.
 use Rattle.std.specs.Prelude.{ℕ, List, [], ◌∷◌, map, Option, Some, None}
+use Rattle.std.specs.Box.{box_value}
 use Rattle.page_model.specs.Forest.{Forest, none, node, after}
 use Rattle.page_model.specs.Labels as label
 use Rattle.tpl_model.specs.declared.mark.Child.{Child}
@@ -49,7 +50,7 @@ pub data Next : Type 0 where
 -- a child as the code has it
 abbrev pub child_of : Child → Next
 child_of (child.Kept n) = stays n
-child_of (child.New s) = comes (shown_tree s)
+child_of (child.New s) = comes (shown_tree (box_value s))
 
 -- a node that stands there: its number, what it says next, and its next children
 pub record Marked : Type 0 where

@@ -1,4 +1,6 @@
 use Rattle.std.proofs.Common.{[], ◌∷◌, ◌++◌, sym, ap, subst, ◌∙◌}
+use Rattle.std.specs.Box.{box_value}
+use Rattle.page_model.specs.Labels.{Sound}
 use Rattle.tpl_scratch.specs.Pages.{nodes_of, with_nodes}
 use Rattle.tpl_scratch.proofs.Shared.{after_none, with_none}
 use Rattle.tpl_model.specs.ShownNodes.Shapes.{child_of, shown_tree}
@@ -19,6 +21,10 @@ returns-in_ok-put_node-in-New-clause-numbers c =
 
 pub returns-in_ok-put_node-in-New-clause-coming : goal.returns-in_ok-put_node-in-New-clause-coming
 returns-in_ok-put_node-in-New-clause-coming c =
-    c.in_ok-put_node-in-New.ensures (subst (λ z. AreSound (child_of z ∷ [])) c.in-New.is c.requires).0
-    ∙ (ap (with_nodes (nodes_of c.args.coming.now)) (sym (after_none (shown_tree c.in-New.node)))
-    ∙ ap (λ z. with_nodes (nodes_of c.args.coming.now) (arrivals (child_of z ∷ []))) (sym c.in-New.is))
+    let before = nodes_of c.args.coming.now in
+    let is = c.deref.ensures in
+    let sound = (subst (λ z. AreSound (child_of z ∷ [])) c.in-New.is c.requires).0 in
+    c.in_ok-put_node-in-New.ensures (subst (λ z. Sound (shown_tree z)) (sym is) sound)
+    ∙ (ap (λ z. with_nodes before (shown_tree z)) is
+    ∙ (ap (with_nodes before) (sym (after_none (shown_tree (box_value c.in-New.node))))
+    ∙ ap (λ z. with_nodes before (arrivals (child_of z ∷ []))) (sym c.in-New.is)))

@@ -12,7 +12,8 @@ loop-node-preserved c =
     step_out (map child_of c.loop-node.children.items) (map child_of c.push.new.self.items) (comes (shown_tree c.in-Some.node) ∷ [])
     (children_in (λ a. None) (all_shown rest)) (children_in (λ a. None) (all_shown c.loop-node.node-iterator.rest.items))
     (map child_of c.args.children.now.items ++ children_in (λ a. None) (all_shown c.into_iter-node-iterator.result.rest.items))
-    (ap (map child_of) c.in_ok-push.ensures.items ∙ map-append child_of c.loop-node.children.items _)
+    (ap (map child_of) c.in_ok-push.ensures.items ∙ (map-append child_of c.loop-node.children.items _
+    ∙ ap (λ z. map child_of c.loop-node.children.items ++ comes (shown_tree z) ∷ []) c.in_ok-coming.ensures.ok))
     (ap (λ z. children_in (λ a. None) (all_shown z)) c.in-Some.ensures.steps.0 ∙ all_new c.in-Some.node rest) c.loop-node.invariant
 
 pub returns : goal.returns

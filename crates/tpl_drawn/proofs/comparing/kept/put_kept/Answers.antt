@@ -7,9 +7,9 @@ use Rattle.tpl_blocks.specs.Blocks.{block, waiting}
 use Rattle.tpl_model.specs.KeptLines.Kept.{kept}
 use Rattle.tpl_drawn.specs.Addresses.{address_at}
 use Rattle.tpl_drawn.specs.Shown.{attributes_of, inside_of}
-use Rattle.tpl_model.specs.ShownNodes.Shapes.{all_shown, child_of}
+use Rattle.tpl_model.specs.ShownNodes.Shapes.{child_of}
 use Rattle.tpl_model.specs.PageUpdates.PageMemos.{nodes, values}
-use Rattle.tpl_drawn.proofs.Compares.Siblings.{listed_all, put_kept_node, put_new_node, unlisted}
+use Rattle.tpl_drawn.proofs.Compares.Siblings.{listed_all, put_kept_node, unlisted}
 use Rattle.tpl_drawn.proofs.comparing.kept.put_kept.Goals as goal
 
 pub returns-clause-number : goal.returns-clause-number
@@ -31,13 +31,8 @@ returns-in_default-clause-number c = λ known k.
 
 pub returns-in_default-clause-child : goal.returns-in_default-clause-child
 returns-in_default-clause-child c = λ known k.
-    listed_all c.args.listed (map child_of c.args.children.now.items) (map child_of c.put_new.new.children.items) _ c.if-not-listed.false
-    (put_new_node known (address c.args.line (option_copied c.args.key))
-    (Element c.args.name.now (values (waiting c.args.attributes.now) (attributes_of (kept c.args.memo.now))))
-    (nodes (option_copied c.args.key) (block c.args.inner.now) (inside_of (kept c.args.memo.now))) (map child_of c.args.children.now.items)
-    (map child_of c.put_new.new.children.items) (all_shown c.new-shown.result.items) (all_shown c.put_element.new.out.items)
-    (sym (k (address_at c.args.line (option_copied c.args.key))) ∙ (sym c.in_ok-number.ensures ∙ c.in_default.is))
-    c.in_ok-put_new.ensures c.in_ok-put_element.ensures (ap all_shown c.new-shown.ensures.items))
+    listed_all c.args.listed (map child_of c.args.children.now.items) (map child_of c.put_coming.new.children.items) _ c.if-not-listed.false
+    (c.in_ok-put_coming.ensures known (sym (k (address_at c.args.line (option_copied c.args.key))) ∙ (sym c.in_ok-number.ensures ∙ c.in_default.is)))
 
 pub returns-then-not-listed-clause-number : goal.returns-then-not-listed-clause-number
 returns-then-not-listed-clause-number c = λ known k. c.in_ok-number.ensures ∙ k (address_at c.args.line (option_copied c.args.key))

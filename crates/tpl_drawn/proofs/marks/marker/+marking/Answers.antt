@@ -1,12 +1,13 @@
-use Rattle.std.proofs.Common.{◌≡◌, ◌++◌, [], ◌∷◌, map, refl, sym, ap, ◌∙◌}
+use Rattle.std.proofs.Common.{◌≡◌, ℕ, List, Option, ◌++◌, [], ◌∷◌, map, refl, sym, ap, ◌∙◌}
+use Rattle.std.specs.Box.{box_value}
 use Rattle.std.proofs.lemmas.List.{map-append}
 use Rattle.page_model.specs.Forest.{none}
 use Rattle.tpl_model.specs.ShownNodes.Addresses.{address_of}
 use Rattle.tpl_model.specs.ShownNodes.Shapes.{all_shown, child_of, comes, look_of, mark_of, shown_tree, stays}
-use Rattle.tpl_model.specs.declared.shown.Shown.TheViews.{out-Shown, roll-Shown}
+use Rattle.tpl_model.specs.declared.shown.Shown.TheViews.{out-Shown}
 use Rattle.tpl_model.proofs.Shared.{tree_is, tree_shown}
 use Rattle.tpl_drawn.specs.Marks.{children_in, marks_in}
-use Rattle.tpl_drawn.specs.Addresses.{number_on}
+use Rattle.tpl_drawn.specs.Addresses.{address_at, number_on}
 use Rattle.page_tree.proofs.Shared.{no_items}
 use Rattle.tpl_drawn.proofs.Numbered.Marks.{all_marked, is_new, is_there, none_marked, one_marked}
 use Rattle.tpl_drawn.proofs.marks.marker.+marking.Goals as goal
@@ -16,36 +17,44 @@ use Rattle.tpl_drawn.proofs.marks.marker.+marking.Goals as goal
 pub mark_node-returns-clause-child : goal.mark_node-returns-clause-child
 mark_node-returns-clause-child t c = λ known kn.
     let node = out-Shown c.args.node in
+    let asked = ap (λ (k : Option (List ℕ)). number_on c.args.page.now (address_at node.address.line k)) c.as_ref.ensures.value in
+    let known_by = sym (c.in_ok-number.ensures ∙ asked) ∙ c.in-Some.is in
     (is_there (number_on c.args.page.now) node.address c.in-Some.number (address_of node.address) (look_of node.look) (all_shown node.children.items)
     (shown_tree c.args.node) (stays c.in-Some.number) (map child_of c.in_ok-children.children.items) (map mark_of c.args.marks.now.items)
-    (map mark_of c.mark_all.new.marks.items) (map mark_of c.push.new.self.items) (tree_is c.args.node) (sym c.number_near.ensures ∙ c.in-Some.is)
+    (map mark_of c.mark_all.new.marks.items) (map mark_of c.push.new.self.items) (tree_is c.args.node) known_by
     (λ known k. k node.address) refl (record { children = c.in_ok-children.ensures.children; marks = c.in_ok-children.ensures.marks })
     (ap (map mark_of) c.in_ok-push.ensures.items ∙ map-append mark_of c.mark_all.new.marks.items _)).child known kn
 
 pub mark_node-returns-clause-marks : goal.mark_node-returns-clause-marks
 mark_node-returns-clause-marks t c = λ known kn.
     let node = out-Shown c.args.node in
+    let asked = ap (λ (k : Option (List ℕ)). number_on c.args.page.now (address_at node.address.line k)) c.as_ref.ensures.value in
+    let known_by = sym (c.in_ok-number.ensures ∙ asked) ∙ c.in-Some.is in
     (is_there (number_on c.args.page.now) node.address c.in-Some.number (address_of node.address) (look_of node.look) (all_shown node.children.items)
     (shown_tree c.args.node) (stays c.in-Some.number) (map child_of c.in_ok-children.children.items) (map mark_of c.args.marks.now.items)
-    (map mark_of c.mark_all.new.marks.items) (map mark_of c.push.new.self.items) (tree_is c.args.node) (sym c.number_near.ensures ∙ c.in-Some.is)
+    (map mark_of c.mark_all.new.marks.items) (map mark_of c.push.new.self.items) (tree_is c.args.node) known_by
     (λ known k. k node.address) refl (record { children = c.in_ok-children.ensures.children; marks = c.in_ok-children.ensures.marks })
     (ap (map mark_of) c.in_ok-push.ensures.items ∙ map-append mark_of c.mark_all.new.marks.items _)).marks known kn
 
 pub mark_node-returns-in_default-clause-child : goal.mark_node-returns-in_default-clause-child
 mark_node-returns-in_default-clause-child t c = λ known kn.
     let node = out-Shown c.args.node in
-    let again = roll-Shown (record { address = node.address; look = node.look; children = node.children }) in
+    let asked = ap (λ (k : Option (List ℕ)). number_on c.args.page.now (address_at node.address.line k)) c.as_ref.ensures.value in
+    let known_by = sym (c.in_ok-number.ensures ∙ asked) ∙ c.in_default.is in
+    let boxed = ap (λ z. comes (shown_tree z)) c.in_ok-coming.ensures.ok in
     (is_new (number_on c.args.page.now) node.address (address_of node.address) (look_of node.look) (all_shown node.children.items) (shown_tree c.args.node)
-    (comes (shown_tree again)) (map mark_of c.args.marks.now.items) (tree_is c.args.node) (sym c.number_near.ensures ∙ c.in_default.is) (λ known k. k node.address)
-    (ap comes (tree_shown node.address node.look node.children ∙ sym (tree_is c.args.node)))).child known kn
+    (comes (shown_tree (box_value c.in_ok-coming.coming))) (map mark_of c.args.marks.now.items) (tree_is c.args.node) known_by (λ known k. k node.address)
+    (boxed ∙ ap comes (tree_shown node.address node.look node.children ∙ sym (tree_is c.args.node)))).child known kn
 
 pub mark_node-returns-in_default-clause-marks : goal.mark_node-returns-in_default-clause-marks
 mark_node-returns-in_default-clause-marks t c = λ known kn.
     let node = out-Shown c.args.node in
-    let again = roll-Shown (record { address = node.address; look = node.look; children = node.children }) in
+    let asked = ap (λ (k : Option (List ℕ)). number_on c.args.page.now (address_at node.address.line k)) c.as_ref.ensures.value in
+    let known_by = sym (c.in_ok-number.ensures ∙ asked) ∙ c.in_default.is in
+    let boxed = ap (λ z. comes (shown_tree z)) c.in_ok-coming.ensures.ok in
     (is_new (number_on c.args.page.now) node.address (address_of node.address) (look_of node.look) (all_shown node.children.items) (shown_tree c.args.node)
-    (comes (shown_tree again)) (map mark_of c.args.marks.now.items) (tree_is c.args.node) (sym c.number_near.ensures ∙ c.in_default.is) (λ known k. k node.address)
-    (ap comes (tree_shown node.address node.look node.children ∙ sym (tree_is c.args.node)))).marks known kn
+    (comes (shown_tree (box_value c.in_ok-coming.coming))) (map mark_of c.args.marks.now.items) (tree_is c.args.node) known_by (λ known k. k node.address)
+    (boxed ∙ ap comes (tree_shown node.address node.look node.children ∙ sym (tree_is c.args.node)))).marks known kn
 
 -- ---- nodes one after the other
 
