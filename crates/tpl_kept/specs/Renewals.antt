@@ -26,8 +26,10 @@ SlotsWere b links t i before (m ∷ ms) =
     × SlotsWere b links t (suc i) before ms
 
 -- what was kept of the row at a place is taken; what is left was kept for rows from place n on
-pub record TakesRow (b : Block) (links : List ℕ) (t : Table) (n : ℕ) (before : Outcomes) (place : Option ℕ) (m : PageMemo) (ms : List PageMemo) : Type 0 where
-  pub taken : (i : ℕ) → place ≡ Some i → i < length t.rows → WasMadeIfRead (lines_memo b) links (Some (record { rows = t; place = i })) before m
+pub record TakesRow (b : Block) (links : List ℕ) (t : Table) (n : ℕ) (before : Outcomes) (place : Option ℕ) (m : PageMemo)
+    (ms : List PageMemo) : Type 0 where
+  pub taken : (i : ℕ) → place ≡ Some i → i < length t.rows →
+      WasMadeIfRead (lines_memo b) links (Some (record { rows = t; place = i })) before m
   pub nothing : place ≡ None → is_unread m ≡ true
   pub left : SlotsWere b links t n before ms
 
