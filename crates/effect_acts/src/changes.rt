@@ -12,7 +12,7 @@ ghost use Rattle.effect_acts.specs.Rewires.{IsMeant};
 use effect_tables::{Slots, Target, Thing};
 use sig_base::{EffectId, NoMemory, NodeId};
 use sig_formula::copy_formula;
-use sig_nodes::Recipe;
+use sig_graph::Recipe;
 use sig_untrack::{Recipe2, Rewire};
 use std::alloc::Global;
 

@@ -4,7 +4,7 @@ ghost use Rattle.signal_model.specs.Signals.{is_cell, standing};
 ghost use Rattle.effect_model.specs.Acts.{host_of, host_refused, rewire_signal, rewiring_refused};
 ghost use Rattle.sig_nodes.specs.Answers.{expression_of, HasFewSlots};
 ghost use Rattle.sig_nodes.specs.Computations.{recipe_made};
-ghost use Rattle.sig_nodes.specs.States.{CanWear};
+ghost use Rattle.sig_graph.specs.States.{CanWear};
 ghost use Rattle.effect_world.specs.Signals.{scene};
 ghost use Rattle.effect_world.specs.Stores.{Agrees};
 ghost use Rattle.effect_world.specs.Wholes.{whole_of};
@@ -15,8 +15,8 @@ use effect_tables::Thing;
 use effect_world::World;
 use sig_base::{NoMemory, NodeId};
 use sig_effect::Event;
+use sig_graph::{Recipe, Standing};
 use sig_host::{Lent, Shelf};
-use sig_nodes::{Recipe, Standing};
 
 // The first of these signals that is gone.
 fn first_gone(world: &World, ids: &[NodeId]) -> Option<NodeId>

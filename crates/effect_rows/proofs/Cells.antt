@@ -3,7 +3,7 @@ use Rattle.std.proofs.Common.{◌≡◌, ◌+◌, ℕ, List, map, Option, ap, re
 use Rattle.sig_base.specs.declared.value.Value.{Value}
 use Rattle.sig_host.specs.Hosts.{HostPlace, most_asked, unasked_place}
 use Rattle.sig_host.proofs.Shared.{most_asked-new}
-use Rattle.sig_nodes.specs.States.{Makes, Seen, State, no_state, with_new_cell}
+use Rattle.sig_graph.specs.States.{Makes, Seen, State, no_state, with_new_cell}
 use Rattle.sig_watcher.specs.Tables.{no_watchers}
 use Rattle.sig_computed.specs.declared.notes.RunNote.{RunNote}
 use Rattle.sig_computed.specs.Scenes.{scene, CanSettle}

@@ -4,8 +4,8 @@ ghost use Rattle.sig_computed.specs.Scenes.{scene, CanSettle};
 
 use sig_base::{NodeId, Value};
 use sig_computed::RunNote;
+use sig_graph::Graph;
 use sig_host::{Lent, Shelf};
-use sig_nodes::Graph;
 use std::alloc::Global;
 use std::test::Fail;
 

@@ -11,8 +11,8 @@ ghost use Rattle.effect_runs.specs.Evaluations.{is_still};
 
 use sig_base::{NoMemory, Outcome};
 use sig_computed::{RunNote, settle};
+use sig_graph::Graph;
 use sig_host::{Lent, Shelf};
-use sig_nodes::Graph;
 use sig_untrack::Read;
 
 // Whether what was read is a cell that has the value still that was read. It is looked at where it stands.

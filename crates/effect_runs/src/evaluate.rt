@@ -13,8 +13,8 @@ ghost use Rattle.sig_computed.specs.Scenes.{scene, CanSettle, Settles};
 use crate::run::{BodyEnd, BodyRun, Reading};
 use sig_base::{NoMemory, NodeId, Outcome};
 use sig_computed::{RunNote, settle};
+use sig_graph::Graph;
 use sig_host::{Lent, Shelf};
-use sig_nodes::Graph;
 use sig_untrack::{Body, BodyStep, body_step};
 
 // The signal that a slot stands for.

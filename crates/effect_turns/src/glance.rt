@@ -20,8 +20,8 @@ use effect_world::World;
 use sig_base::{EffectId, NoMemory};
 use sig_computed::RunNote;
 use sig_effect::{Event, tell_runs};
+use sig_graph::Graph;
 use sig_host::{Lent, Shelf};
-use sig_nodes::Graph;
 
 // Settles what an effect keeps of its last run, up to the first that differs now: whether it is due.
 fn look_at(

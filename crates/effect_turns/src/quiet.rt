@@ -10,7 +10,7 @@ use effect_runs::are_still;
 use effect_tables::{Effect, Heard};
 use effect_world::World;
 use sig_base::{EffectId, NoMemory, NodeId};
-use sig_nodes::Graph;
+use sig_graph::Graph;
 use sig_untrack::Read;
 use std::alloc::Global;
 

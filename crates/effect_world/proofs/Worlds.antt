@@ -22,7 +22,7 @@ use Rattle.sig_host.specs.Hosts.{HostPlace}
 use Rattle.sig_owner.specs.Trees.{has_thing, owned_of}
 use Rattle.sig_effect.specs.declared.events.Event.{Event}
 use Rattle.sig_effect.specs.Events.{Tells}
-use Rattle.sig_nodes.specs.States.{Seen, no_state}
+use Rattle.sig_graph.specs.States.{Seen, no_state}
 use Rattle.sig_watcher.specs.Tables.{Table, with_changed, with_new}
 use Rattle.sig_effect.specs.Stores as signals
 use Rattle.sig_effect.specs.Stores.{AreWatched}

@@ -9,7 +9,7 @@ use Rattle.effect_model.specs.Batches.{joined_by}
 use Rattle.effect_model.specs.Worlds as plain
 use Rattle.sig_host.specs.Hosts.{HostPlace, most_asked}
 use Rattle.sig_nodes.specs.Answers.{HasFewSlots}
-use Rattle.sig_nodes.specs.States.{CanWear, Seen, is_given}
+use Rattle.sig_graph.specs.States.{CanWear, Seen, is_given}
 use Rattle.sig_owner.specs.declared.errors.OwnFault.{OwnFault}
 use Rattle.sig_owner.specs.declared.errors.OwnFault.TheVariants as own
 use Rattle.sig_state.specs.Batches.{Collected}

@@ -5,7 +5,7 @@ ghost use Rattle.signal_model.specs.Changes.{with_recipe, with_value};
 ghost use Rattle.effect_model.specs.Acts.{rewire_signal, set_cell};
 ghost use Rattle.sig_nodes.specs.Answers.{expression_of};
 ghost use Rattle.sig_nodes.specs.Computations.{recipe_made};
-ghost use Rattle.sig_nodes.specs.States.{are_there};
+ghost use Rattle.sig_graph.specs.States.{are_there};
 ghost use Rattle.sig_state.specs.Equality.{is_alike_here};
 ghost use Rattle.sig_effect.specs.Answers.{is_same};
 ghost use Rattle.effect_world.specs.Stores.{Agrees};
@@ -16,8 +16,8 @@ use crate::world::World;
 use effect_model::How;
 use sig_base::{NodeId, Value};
 use sig_effect::{EffectFault, Event, drop_left, tell_change, tell_notified};
+use sig_graph::Recipe;
 use sig_host::{EqualsRule, Lent, Shelf};
-use sig_nodes::Recipe;
 use sig_state::{Gone, SetDone, set};
 
 impl World {

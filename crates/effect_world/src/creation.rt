@@ -12,7 +12,7 @@ ghost use Rattle.effect_tables.specs.Placed.{is_open};
 ghost use Rattle.sig_host.specs.Hosts.{HostPlace};
 ghost use Rattle.sig_nodes.specs.Answers.{expression_of};
 ghost use Rattle.sig_nodes.specs.Computations.{recipe_made};
-ghost use Rattle.sig_nodes.specs.States.{CanWear};
+ghost use Rattle.sig_graph.specs.States.{CanWear};
 ghost use Rattle.sig_effect.specs.Stores.{AreRuled};
 ghost use Rattle.effect_model.specs.declared.limits.TheConstants.{MOST_OWNERS};
 ghost use Rattle.effect_world.specs.Stores.{Agrees, AreOwned, Does, IsSound};
@@ -23,7 +23,7 @@ use crate::world::World;
 use effect_tables::{Script, Tables};
 use sig_base::{EffectId, NodeId, OwnerId, PageId, Value};
 use sig_effect::EffectFault;
-use sig_nodes::Recipe;
+use sig_graph::Recipe;
 use sig_owner::OwnFault;
 use std::alloc::Global;
 

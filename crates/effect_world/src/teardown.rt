@@ -8,7 +8,7 @@ ghost use Rattle.effect_tables.specs.Bodies as tables;
 ghost use Rattle.effect_tables.specs.Bodies.{undoing_of, undoings_of};
 ghost use Rattle.effect_teardown.specs.Trees.{IsEffect};
 ghost use Rattle.sig_host.specs.Hosts.{HostPlace};
-ghost use Rattle.sig_nodes.specs.States.{is_given};
+ghost use Rattle.sig_graph.specs.States.{is_given};
 ghost use Rattle.sig_owner.specs.Tables.{cleanup_of};
 ghost use Rattle.sig_effect.specs.Stores as below;
 ghost use Rattle.sig_effect.specs.Stores.{AreRuled};
@@ -23,8 +23,8 @@ use effect_model::How;
 use effect_tables::{Thing, Undoing};
 use sig_base::{EffectId, NoMemory, NodeId, Value, WatcherId};
 use sig_effect::{Event, drop_left, tell_change};
+use sig_graph::Standing;
 use sig_host::{EqualsRule, Lent, Shelf};
-use sig_nodes::Standing;
 use sig_owner::CleanupAct;
 
 // Tells that a thing is gone.

@@ -6,7 +6,7 @@ ghost use Rattle.effect_model.specs.Acts.{forget};
 ghost use Rattle.effect_model.specs.Commands.{armed, changed_watcher, with_new_watcher};
 ghost use Rattle.effect_model.specs.Watchers.{watches};
 ghost use Rattle.sig_host.specs.Hosts.{HostPlace};
-ghost use Rattle.sig_nodes.specs.States.{are_there};
+ghost use Rattle.sig_graph.specs.States.{are_there};
 ghost use Rattle.sig_watcher.specs.declared.errors.WatchFault.TheVariants as refused;
 ghost use Rattle.sig_watcher.specs.Tables.{is_alive, with_changed, with_new};
 ghost use Rattle.sig_effect.specs.declared.errors.EffectFault.TheVariants as fault;

@@ -11,8 +11,8 @@ ghost use Rattle.effect_world.specs.Wholes.{whole_of};
 
 use effect_tables::{Heard, Tables};
 use sig_base::NoMemory;
+use sig_graph::Graph;
 use sig_host::{Lent, Shelf};
-use sig_nodes::Graph;
 use sig_watcher::Watchers;
 use std::alloc::Global;
 

@@ -1,10 +1,10 @@
 // A batch of a graph with a cell, with ample memory.
 ghost use Rattle.std.specs.Prelude.{◌≡◌};
-ghost use Rattle.sig_nodes.specs.States.{no_state};
+ghost use Rattle.sig_graph.specs.States.{no_state};
 
 use crate::watchers::no_signals;
 use sig_base::{NoMemory, Value};
-use sig_nodes::Graph;
+use sig_graph::Graph;
 use sig_state::Batch;
 use std::alloc::Global;
 use std::test::Fail;

@@ -1,12 +1,12 @@
 // Watchers of a cell and of a computed that reads it, with ample memory.
 ghost use Rattle.std.specs.Prelude.{◌≡◌, ◌∷◌, [], true, IfOk};
 ghost use Rattle.std.specs.List.{All};
-ghost use Rattle.sig_nodes.specs.States.{is_given, no_state, CanWear};
+ghost use Rattle.sig_graph.specs.States.{is_given, no_state, CanWear};
 ghost use Rattle.sig_watcher.specs.Tables.{no_watchers};
 
 use sig_base::{NoMemory, NodeId, Outcome, Value, WatcherId};
 use sig_formula::Formula;
-use sig_nodes::{Graph, Recipe, Standing};
+use sig_graph::{Graph, Recipe, Standing};
 use sig_watcher::{Told, WatchFault, Watchers};
 use std::alloc::Global;
 use std::test::Fail;

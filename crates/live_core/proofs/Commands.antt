@@ -15,7 +15,7 @@ use Rattle.effect_laws.specs.Counts.{KeepsCounts}
 use Rattle.sig_effect.specs.Kinds.{AreKindsOf, KeepsKinds}
 use Rattle.sig_host.specs.Hosts.{HostPlace}
 use Rattle.sig_nodes.specs.Answers.{HasFewSlots}
-use Rattle.sig_nodes.specs.States.{Seen, is_given}
+use Rattle.sig_graph.specs.States.{Seen, is_given}
 use Rattle.sig_state.specs.Batches.{Collected}
 use Rattle.sig_effect.specs.declared.errors.EffectFault.{EffectFault}
 use Rattle.sig_effect.specs.declared.errors.EffectFault.TheVariants as fault

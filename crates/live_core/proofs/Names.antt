@@ -4,8 +4,8 @@ use Rattle.std.proofs.lemmas.Bool.{true≢false}
 use Rattle.std.specs.Str.{bytes_eq}
 use Rattle.std.proofs.lemmas.Bool.{eqb-true, lt-ltb, ltb-true}
 use Rattle.signal_model.specs.Signals.{Signals, Stands, standing}
-use Rattle.sig_nodes.specs.States.{Seen, is_given}
-use Rattle.sig_nodes.proofs.Shared.{given_is, given_same}
+use Rattle.sig_graph.specs.States.{Seen, is_given}
+use Rattle.sig_graph.proofs.Shared.{given_is, given_same}
 use Rattle.effect_world.specs.declared.world.World.{World}
 use Rattle.live_model.specs.declared.names.Kind.{Kind}
 use Rattle.live_model.specs.declared.names.Kind.TheVariants as kind

@@ -6,7 +6,7 @@ use Rattle.signal_model.specs.Signals.{is_in, is_there, standing}
 use Rattle.effect_model.specs.Worlds.{watcher_numbers}
 use Rattle.effect_tables.specs.Owners.{living}
 use Rattle.effect_tables.specs.Placed.{is_open}
-use Rattle.sig_nodes.specs.States.{Seen, are_there, is_given}
+use Rattle.sig_graph.specs.States.{Seen, are_there, is_given}
 use Rattle.effect_world.specs.declared.world.World.{World}
 use Rattle.effect_world.specs.Wholes.{whole_of}
 use Rattle.live_entries.specs.declared.refusal.Refusal.{Refusal}

@@ -6,7 +6,7 @@ use Rattle.effect_model.specs.Commands.{changed_watcher}
 use Rattle.effect_model.specs.Worlds as told
 use Rattle.effect_model.specs.Worlds.{at_rest}
 use Rattle.sig_host.specs.Hosts.{HostPlace}
-use Rattle.sig_nodes.specs.States.{Seen}
+use Rattle.sig_graph.specs.States.{Seen}
 use Rattle.sig_effect.specs.Stores.{AreRuled}
 use Rattle.effect_world.specs.declared.world.World.{World}
 use Rattle.effect_world.specs.Stores.{Agrees}

@@ -7,7 +7,7 @@ use Rattle.signal_model.specs.Recipes.{Hosts}
 use Rattle.signal_model.specs.Signals.{Signals, Stands, is_computed, is_in, is_there, standing, is_cell}
 use Rattle.signal_model.specs.Changes.{live_count}
 use Rattle.sig_host.specs.Hosts.{HostPlace, most_asked}
-use Rattle.sig_nodes.specs.States.{is_given}
+use Rattle.sig_graph.specs.States.{is_given}
 use Rattle.sig_state.specs.Batches.{Collected}
 use Rattle.sig_effect.specs.Stores.{AreRuled}
 use Rattle.effect_tables.specs.Scripts.{IsFitting}

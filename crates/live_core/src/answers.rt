@@ -20,8 +20,8 @@ use live_labels::{names_of_signals, tell_all};
 use live_pages::{page_among, scratch, shown_of};
 use sig_base::{Name, NoMemory, NodeId, PageId, WatcherId};
 use sig_effect::EffectFault;
+use sig_graph::Mark;
 use sig_host::{Lent, Shelf};
-use sig_nodes::Mark;
 use std::alloc::Global;
 
 /// One entry.

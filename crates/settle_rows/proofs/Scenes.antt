@@ -14,13 +14,14 @@ use Rattle.sig_nodes.specs.declared.answers.Standing.TheVariants.{Cell}
 use Rattle.sig_host.specs.declared.shelf.Shelf.{Shelf}
 use Rattle.sig_host.specs.Hosts.{HostPlace, is_there, most_asked, unasked_place}
 use Rattle.sig_host.proofs.Shared.{most_asked-new}
-use Rattle.sig_nodes.specs.Answers.{kind_here, uses_host}
-use Rattle.sig_nodes.proofs.Shared.{uses_made, uses_rewired}
+use Rattle.sig_nodes.specs.Answers.{kind_here}
+use Rattle.sig_graph.specs.HostUse.{uses_host}
+use Rattle.sig_graph.proofs.Shared.{uses_made, uses_rewired}
 use Rattle.sig_computed.specs.Asked.{AreThere, StayThere}
 use Rattle.sig_computed.specs.Notes.{IsIdle}
 use Rattle.sig_computed.specs.Scenes.{scene, CanSettle}
 use Rattle.sig_computed.specs.declared.notes.RunNote.{RunNote}
-use Rattle.sig_nodes.specs.States.{Seen, State, Progress, Makes, progress_at, is_given, no_state, with_new_cell, with_new_computed, with_rewiring, with_set, Becomes}
+use Rattle.sig_graph.specs.States.{Seen, State, Progress, Makes, progress_at, is_given, no_state, with_new_cell, with_new_computed, with_rewiring, with_set, Becomes}
 use Rattle.settle_rows.specs.Scenes.{IsReady}
 
 -- ids below a count were given

@@ -2,7 +2,7 @@
 use Rattle.std.specs.Prelude.{◌≡◌, ℕ, ◌*◌, ◌^◌, ◌≤◌, nat_lt, true, false, List}
 use Rattle.std.specs.List.{All}
 use Rattle.sig_host.specs.Hosts.{HostPlace, most_asked}
-use Rattle.sig_nodes.specs.States.{Seen, is_computing}
+use Rattle.sig_graph.specs.States.{Seen, is_computing}
 use Rattle.sig_computed.specs.Asked.{AreThere}
 
 -- Nothing is being evaluated, no counter has come far, the ids were given, and the host formulas that are asked are there.

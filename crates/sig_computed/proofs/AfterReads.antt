@@ -11,9 +11,9 @@ use Rattle.signal_model.specs.Asks.{asks_host, good_reads}
 use Rattle.sig_host.specs.Hosts.{HostPlace}
 use Rattle.sig_nodes.specs.declared.answers.Asked.TheVariants.{Ended}
 use Rattle.sig_nodes.specs.Answers.{host_here, slots_here}
-use Rattle.sig_nodes.specs.Reading.{SlotRead}
-use Rattle.sig_nodes.specs.States as states
-use Rattle.sig_nodes.specs.States.{Progress, State}
+use Rattle.sig_graph.specs.Reading.{SlotRead}
+use Rattle.sig_graph.specs.States as states
+use Rattle.sig_graph.specs.States.{Progress, State}
 use Rattle.sig_computed.specs.declared.frames.Open.{Open}
 use Rattle.sig_computed.specs.Asked.{places_by}
 use Rattle.sig_computed.specs.Notes.{Note}

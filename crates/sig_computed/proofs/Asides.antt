@@ -7,9 +7,9 @@ use Rattle.sig_base.specs.declared.value.Known.{Known}
 use Rattle.sig_base.specs.declared.value.Outcome.TheVariants.{Good}
 use Rattle.signal_model.specs.Sound.{names_of}
 use Rattle.signal_model.specs.Values.{Seen}
-use Rattle.sig_nodes.specs.Reading.{SlotRead, HasReadOn}
-use Rattle.sig_nodes.specs.States as states
-use Rattle.sig_nodes.specs.States.{is_given}
+use Rattle.sig_graph.specs.Reading.{SlotRead, HasReadOn}
+use Rattle.sig_graph.specs.States as states
+use Rattle.sig_graph.specs.States.{is_given}
 use Rattle.sig_computed.specs.Steps.{Running, Waiting}
 use Rattle.sig_computed.specs.Turns.{AreReadsGiven}
 use Rattle.sig_computed.specs.Reading.{known_after, reads_after, seen_of, HasGoneOn}

@@ -17,9 +17,10 @@ use Rattle.signal_model.specs.Settling.{Run}
 use Rattle.signal_model.specs.Asks.{Moment, asks_host, asks_of, good_reads, is_good, is_host, moments}
 use Rattle.sig_host.specs.Hosts.{HostPlace, count_at, is_there, last_ask, most_asked, places_after}
 use Rattle.sig_host.proofs.Shared.{count_at-asked, count_at-most, is_there-more, length-asked, most_asked-least}
-use Rattle.sig_nodes.specs.States as states
-use Rattle.sig_nodes.proofs.Shared.{uses_standing}
-use Rattle.sig_nodes.specs.Answers.{host_here, slots_here, HasFewSlots, HaveFewSlots}
+use Rattle.sig_graph.specs.States as states
+use Rattle.sig_graph.proofs.Shared.{uses_standing}
+use Rattle.sig_nodes.specs.Answers.{host_here, slots_here, HasFewSlots}
+use Rattle.sig_graph.specs.HostUse.{HaveFewSlots}
 use Rattle.sig_computed.specs.Steps.{Phase, Looking, LookedAt, Running, Waiting, Frame, new_frame, is_ready, ready_outcome}
 use Rattle.sig_computed.specs.Steps.{Move, GoesOn, Needs, Stops, Ends, looked, slot_read, answered}
 use Rattle.sig_computed.specs.Skips.{passed_over}

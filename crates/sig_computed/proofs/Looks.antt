@@ -16,9 +16,9 @@ use Rattle.signal_laws.proofs.Shared.{in_append}
 use Rattle.sig_computed.specs.Steps.{LookedAt, Move, Needs, Stops, Waiting, decided, is_ready, looked, ready_outcome, slot_read}
 use Rattle.sig_computed.specs.Skips.{clean_among, compare_steps, look_steps, passed_over, source_steps}
 use Rattle.sig_computed.proofs.Skips.{among_clean, clean_found}
-use Rattle.sig_nodes.specs.Looks.{is_clean_mark}
-use Rattle.sig_nodes.specs.States as states
-use Rattle.sig_nodes.specs.States.{Progress, is_given, progress_at}
+use Rattle.sig_graph.specs.Looks.{is_clean_mark}
+use Rattle.sig_graph.specs.States as states
+use Rattle.sig_graph.specs.States.{Progress, is_given, progress_at}
 use Rattle.sig_computed.specs.Views.{first_moved, first_name, evaluating, or_cycle, passing, Stays}
 use Rattle.sig_computed.specs.Turns.{AreReadsGiven, move_reads, waits}
 

@@ -9,9 +9,10 @@ use Rattle.signal_model.specs.Signals.{is_in, is_there, standing}
 use Rattle.signal_model.specs.Memos.{Memos}
 use Rattle.signal_model.specs.Asks.{asks_host}
 use Rattle.sig_host.specs.Hosts.{HostPlace, count_at, most_asked}
-use Rattle.sig_nodes.specs.Answers.{host_here, HaveFewSlots}
-use Rattle.sig_nodes.specs.States as states
-use Rattle.sig_nodes.specs.States.{is_given}
+use Rattle.sig_nodes.specs.Answers.{host_here}
+use Rattle.sig_graph.specs.HostUse.{HaveFewSlots}
+use Rattle.sig_graph.specs.States as states
+use Rattle.sig_graph.specs.States.{is_given}
 use Rattle.sig_computed.specs.Steps.{Frame, Move, GoesOn, Needs, Stops, Ends, frame_names}
 use Rattle.sig_computed.specs.declared.frames.Open.{Open}
 use Rattle.sig_computed.specs.declared.frames.Outer.{Outer}

@@ -10,7 +10,7 @@ use Rattle.signal_model.specs.Kept.{AreKept}
 use Rattle.signal_laws.specs.SettleLaws.{followed_by}
 use Rattle.signal_laws.proofs.Shared.{settle_both_law}
 use Rattle.sig_host.specs.Hosts.{HostPlace, place_after, places_after}
-use Rattle.sig_nodes.specs.Answers.{uses_host}
+use Rattle.sig_graph.specs.HostUse.{uses_host}
 use Rattle.sig_computed.specs.Asked.{AreThere, IsAsking}
 use Rattle.sig_computed.specs.Costs.{step_bound}
 use Rattle.sig_computed.specs.Notes.{Note, run_note, IsIdle, IsSettling}

@@ -4,7 +4,7 @@ use Rattle.std.specs.Prelude.{is_some}
 use Rattle.std.proofs.lemmas.Bool.{eqb-true}
 use Rattle.sig_base.specs.declared.value.Known.{Known}
 use Rattle.signal_model.specs.Signals.{is_in}
-use Rattle.sig_nodes.specs.States.{State, Progress, progress_at, is_computing}
+use Rattle.sig_graph.specs.States.{State, Progress, progress_at, is_computing}
 use Rattle.sig_computed.specs.Views.{passing, evaluating, progressed}
 
 -- nothing stands beside false

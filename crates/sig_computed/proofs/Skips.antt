@@ -28,7 +28,7 @@ use Rattle.sig_computed.proofs.StepsHold.{Holds, begun_holds, step_holds, over_s
 use Rattle.sig_computed.proofs.VisitsLeft.{completed}
 use Rattle.sig_computed.specs.Costs.{kept_count, name_steps, run_steps, unless_clean, visit_steps}
 use Rattle.sig_computed.specs.Skips.{Counted, begin_steps, clean_among, look_steps, passed_over, passing_begun, passing_moved, passing_next, passing_stack, passing_step, frame_steps, source_steps}
-use Rattle.sig_nodes.specs.Looks.{is_clean_mark}
+use Rattle.sig_graph.specs.Looks.{is_clean_mark}
 use Rattle.sig_computed.specs.SkipLaws.{IsPassed, PassingLaw, passing_times}
 use Rattle.sig_computed.proofs.CleanRuns.{clean_run}
 use Rattle.sig_computed.proofs.Counts.{all_steps, run_more, seen_steps, first_name, slot_name, waited, was_visited, phase_most, under_most, stack_most, new_most, paid_most, look_once}

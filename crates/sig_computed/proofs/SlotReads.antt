@@ -16,10 +16,10 @@ use Rattle.signal_model.proofs.Shared.{unknown_less}
 use Rattle.sig_host.specs.Hosts.{HostPlace}
 use Rattle.sig_nodes.specs.declared.answers.Asked.TheVariants.{Slot as SlotAsked}
 use Rattle.sig_nodes.specs.Answers.{answer_here, host_here, host_place, slots_here}
-use Rattle.sig_nodes.specs.Looks.{is_clean_mark}
-use Rattle.sig_nodes.specs.Reading.{SlotRead, AreReadNext, IsReadNext}
-use Rattle.sig_nodes.specs.States as states
-use Rattle.sig_nodes.specs.States.{State, is_computing}
+use Rattle.sig_graph.specs.Looks.{is_clean_mark}
+use Rattle.sig_graph.specs.Reading.{SlotRead, AreReadNext, IsReadNext}
+use Rattle.sig_graph.specs.States as states
+use Rattle.sig_graph.specs.States.{State, is_computing}
 use Rattle.sig_computed.specs.Notes.{Note}
 use Rattle.sig_computed.specs.Reading.{known_after, reads_after, seen_of}
 use Rattle.sig_computed.specs.Skips.{passed_over}

@@ -2,8 +2,8 @@
 use Rattle.std.proofs.Common.{◌≡◌, ℕ, zero, suc, ◌<◌, List, [], ◌∷◌, drop, length, get_or, Some, refl, sym, ap, arith}
 use Rattle.std.specs.Prelude.{◌||◌, slice_get}
 use Rattle.signal_model.specs.Memos.{Source, source_names, differs}
-use Rattle.sig_nodes.specs.States.{State}
-use Rattle.sig_nodes.specs.Answers.{has_moved}
+use Rattle.sig_graph.specs.States.{State}
+use Rattle.sig_graph.specs.Looks.{has_moved}
 use Rattle.sig_computed.specs.Views.{evaluating, first_name, first_moved}
 use Rattle.sig_computed.proofs.Progresses.{in_evaluating}
 

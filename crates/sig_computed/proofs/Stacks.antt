@@ -21,9 +21,9 @@ use Rattle.signal_model.specs.Sound.{names_of, standing_outcome}
 use Rattle.signal_model.proofs.Shared.{tested, unknown_less}
 use Rattle.signal_laws.proofs.Shared.{in_head, or_fst, or_snd}
 use Rattle.sig_nodes.specs.Answers.{slots_here}
-use Rattle.sig_nodes.specs.States as states
-use Rattle.sig_nodes.specs.States.{Progress, progress_at, is_computing, is_given}
-use Rattle.sig_nodes.proofs.Shared.{given_same}
+use Rattle.sig_graph.specs.States as states
+use Rattle.sig_graph.specs.States.{Progress, progress_at, is_computing, is_given}
+use Rattle.sig_graph.proofs.Shared.{given_same}
 use Rattle.sig_computed.specs.Steps.{Phase, Looking, LookedAt, Running, Waiting, Frame, frame_names, new_frame, is_ready, ready_outcome}
 use Rattle.sig_computed.specs.Steps.{Move, GoesOn, Needs, Stops, Ends, looked, slot_read, answered}
 use Rattle.sig_computed.proofs.StepsEnd.{few_unknown}

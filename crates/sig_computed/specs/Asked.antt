@@ -6,7 +6,8 @@ use Rattle.signal_model.specs.Memos.{Memos}
 use Rattle.signal_model.specs.Settling.{settled}
 use Rattle.signal_model.specs.Asks.{moments}
 use Rattle.sig_host.specs.Hosts.{HostPlace, asked_more_at, count_at, is_there, last_ask, places_after}
-use Rattle.sig_nodes.specs.Answers.{host_here, uses_host}
+use Rattle.sig_nodes.specs.Answers.{host_here}
+use Rattle.sig_graph.specs.HostUse.{uses_host}
 use Rattle.sig_computed.specs.Steps.{Phase, Looking, LookedAt, Running, Waiting}
 
 -- each host formula that a computed asks is there

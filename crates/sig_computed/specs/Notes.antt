@@ -7,7 +7,7 @@ use Rattle.signal_model.specs.Signals.{Signals}
 use Rattle.signal_model.specs.Memos.{Memos}
 use Rattle.signal_model.specs.Settling.{Run, settled}
 use Rattle.signal_model.specs.Sound.{names_of}
-use Rattle.sig_nodes.specs.States.{Seen, State, is_computing, is_given}
+use Rattle.sig_graph.specs.States.{Seen, State, is_computing, is_given}
 use Rattle.sig_computed.specs.declared.notes.RunNote.{RunNote}
 
 -- what is told of a run: who ran, what it read in order, and what it came to

@@ -7,9 +7,9 @@ use Rattle.signal_model.specs.Signals.{Stands}
 use Rattle.signal_model.specs.Values.{Seen}
 use Rattle.sig_nodes.specs.declared.answers.Asked.TheVariants.{Ended}
 use Rattle.sig_nodes.specs.Answers.{IsAnswerHere}
-use Rattle.sig_nodes.specs.Reading.{SlotRead, AreReadNext}
-use Rattle.sig_nodes.specs.States as states
-use Rattle.sig_nodes.specs.States.{State}
+use Rattle.sig_graph.specs.Reading.{SlotRead, AreReadNext}
+use Rattle.sig_graph.specs.States as states
+use Rattle.sig_graph.specs.States.{State}
 use Rattle.sig_computed.specs.declared.frames.Open.{Open}
 use Rattle.sig_computed.specs.Steps.{Phase, Looking, LookedAt, Running, Waiting, Frame, Move}
 use Rattle.sig_computed.specs.Skips.{passed_over}

@@ -3,7 +3,7 @@ use Rattle.std.specs.Prelude.{◌≡◌, ℕ, ◌+◌, ◌*◌, ◌<◌, ◌≤�
 use Rattle.signal_model.specs.Recipes.{Hosts}
 use Rattle.signal_model.specs.Kept.{AreKept}
 use Rattle.sig_host.specs.Hosts.{HostPlace, most_asked}
-use Rattle.sig_nodes.specs.States as states
+use Rattle.sig_graph.specs.States as states
 use Rattle.sig_computed.specs.Asked.{AreThere, IsAsking, StayThere}
 use Rattle.sig_computed.specs.Costs.{step_bound}
 use Rattle.sig_computed.specs.Notes.{Note, note_of, AreNotesGiven, IsIdle, IsSettling}

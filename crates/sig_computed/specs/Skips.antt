@@ -5,7 +5,7 @@ use Rattle.signal_model.specs.Recipes.{Hosts}
 use Rattle.signal_model.specs.Signals.{Signals, Computed, Stands, IsComputed, is_in, standing}
 use Rattle.signal_model.specs.Memos.{Source, Memos, sources_of}
 use Rattle.signal_model.specs.Marks.{mark_of}
-use Rattle.sig_nodes.specs.Looks.{is_clean_mark}
+use Rattle.sig_graph.specs.Looks.{is_clean_mark}
 use Rattle.sig_computed.specs.Steps.{Phase, Looking, LookedAt, Running, Waiting, Frame, Underway, Move, GoesOn, Needs}
 use Rattle.sig_computed.specs.Steps.{frame_names, new_frame, is_ready, frame_move, after_move, begun}
 

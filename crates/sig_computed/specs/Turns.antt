@@ -10,8 +10,8 @@ use Rattle.signal_model.specs.Asks.{good_reads}
 use Rattle.signal_model.specs.Memos.{Memos, holds_cycle, sources_of}
 use Rattle.signal_model.specs.Settling.{with_run}
 use Rattle.signal_model.specs.Sound.{names_of, standing_outcome}
-use Rattle.sig_nodes.specs.States as states
-use Rattle.sig_nodes.specs.States.{Progress, progress_at, is_computing, is_given}
+use Rattle.sig_graph.specs.States as states
+use Rattle.sig_graph.specs.States.{Progress, progress_at, is_computing, is_given}
 use Rattle.sig_nodes.specs.Answers.{answer_here, slots_here}
 use Rattle.sig_computed.specs.Steps.{Phase, Looking, LookedAt, Running, Waiting, Frame, frame_names, new_frame, is_ready, ready_outcome}
 use Rattle.sig_computed.specs.Steps.{Move, GoesOn, Needs, Stops, Ends, looked, slot_read, answered}

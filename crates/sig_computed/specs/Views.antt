@@ -7,8 +7,8 @@ use Rattle.sig_base.specs.declared.value.Known.{Known}
 use Rattle.signal_model.specs.Signals.{changed}
 use Rattle.signal_model.specs.Values.{Seen, Evaluation}
 use Rattle.signal_model.specs.Memos.{Source, Memos, is_moved}
-use Rattle.sig_nodes.specs.States as states
-use Rattle.sig_nodes.specs.States.{State, Progress, is_computing}
+use Rattle.sig_graph.specs.States as states
+use Rattle.sig_graph.specs.States.{State, Progress, is_computing}
 use Rattle.sig_computed.specs.Steps.{Phase, Looking, LookedAt, Running, Waiting, Frame, Move, GoesOn, Needs, Stops, Ends}
 use Rattle.sig_computed.specs.Lessons.{Lesson}
 use Rattle.sig_computed.specs.declared.frames.Doing.{Doing}

@@ -8,8 +8,8 @@ ghost use Rattle.sig_computed.specs.Scenes.{scene, CanSettle, Settles};
 use crate::notes::RunNote;
 use crate::settler::settle;
 use sig_base::{NoMemory, NodeId, Outcome};
+use sig_graph::Graph;
 use sig_host::{Lent, Shelf};
-use sig_nodes::Graph;
 
 /// Settles signals in order, gone ones too, and gives their outcomes, which are their values from scratch.
 ///

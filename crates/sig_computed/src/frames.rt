@@ -11,7 +11,7 @@ ghost use Rattle.sig_computed.specs.Steps.{Running};
 ghost use Rattle.sig_computed.specs.Views.{blank_phase, frame_of, held, outer_of, outer_phase, phase_of, tops};
 
 use sig_base::{Fault, Known, NoMemory, NodeId, Outcome, Value};
-use sig_nodes::Graph;
+use sig_graph::Graph;
 use std::alloc::Global;
 use std::marker::Model;
 use std::mem;

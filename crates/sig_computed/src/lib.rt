@@ -13,4 +13,4 @@ mod visited;
 pub use all::settle_all;
 pub use notes::RunNote;
 pub use settler::settle;
-pub use sig_nodes::IdList;
+pub use sig_graph::IdList;

@@ -1,7 +1,7 @@
 // What settling tells of its runs.
 
 use sig_base::{NodeId, Outcome};
-use sig_nodes::IdList;
+use sig_graph::IdList;
 
 /// A computed that ran: what it read in order of first reading, and what it came to.
 pub struct RunNote {

@@ -7,7 +7,7 @@ ghost use Rattle.signal_model.specs.Signals.{is_computed, is_in, standing};
 ghost use Rattle.signal_model.specs.Values.{value_of, Seen};
 ghost use Rattle.signal_model.specs.Kept.{AreKept};
 ghost use Rattle.signal_model.specs.Sound.{names_of, standing_outcome};
-ghost use Rattle.sig_nodes.specs.States.{is_computing, is_given, progress_at, CanWear};
+ghost use Rattle.sig_graph.specs.States.{is_computing, is_given, progress_at, CanWear};
 ghost use Rattle.sig_computed.specs.Steps.{frame_names, new_frame};
 ghost use Rattle.sig_host.specs.Hosts.{most_asked};
 ghost use Rattle.sig_computed.specs.Asked.{AreThere};
@@ -21,8 +21,8 @@ use crate::notes::RunNote;
 use crate::turns::{is_clean, next_turn, outcome_of};
 use crate::visited::Visited;
 use sig_base::{NoMemory, NodeId, Outcome};
+use sig_graph::{Graph, IdList, Standing};
 use sig_host::{Lent, Shelf};
-use sig_nodes::{Graph, IdList, Standing};
 use std::alloc::Global;
 
 // Begins the evaluation of a computed: what is stale runs, and all else looks first.

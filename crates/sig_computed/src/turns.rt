@@ -7,8 +7,9 @@ ghost use Rattle.signal_model.specs.Marks.{mark_of};
 ghost use Rattle.sig_computed.specs.Skips.{compare_steps, look_steps, passed_over, source_steps};
 ghost use Rattle.signal_model.specs.Sound.{standing_outcome};
 ghost use Rattle.sig_nodes.specs.Answers.{answer_here, host_here, slots_here};
-ghost use Rattle.sig_nodes.specs.Looks.{is_clean_mark};
-ghost use Rattle.sig_nodes.specs.States.{is_given, progress_at, GoesOn};
+ghost use Rattle.sig_graph.specs.Looks.{is_clean_mark};
+ghost use Rattle.sig_graph.specs.States.{is_given, progress_at};
+ghost use Rattle.sig_nodes.specs.Computations.{GoesOn};
 ghost use Rattle.sig_computed.specs.Reading.{HasEnded, HasGoneOn, HasTurned};
 ghost use Rattle.sig_computed.specs.Steps.{answered, decided, is_ready, looked, ready_outcome, slot_read};
 ghost use Rattle.sig_computed.specs.Views.{evaluating, first_moved, first_name, frame_of, move_of, or_cycle, phase_of, progressed, Stays};
@@ -18,8 +19,8 @@ ghost use Rattle.sig_computed.specs.Turns.{move_by, move_reads, progress_by, tur
 use crate::frames::{Doing, Open, Turn, begin_run};
 use crate::visited::Visited;
 use sig_base::{Known, NoMemory, NodeId, Outcome, Step};
+use sig_graph::{Asked, Graph, Standing};
 use sig_host::{Lent, Shelf};
-use sig_nodes::{Asked, Graph, Standing};
 use signal_model::judged;
 use std::alloc::Global;
 

@@ -5,7 +5,7 @@ ghost use Rattle.signal_model.specs.Signals.{is_in};
 use crate::frames::Learnt;
 use indexmap::IndexSet;
 use sig_base::{NoMemory, NodeId};
-use sig_nodes::Graph;
+use sig_graph::Graph;
 use std::alloc::Global;
 use std::marker::Model;
 

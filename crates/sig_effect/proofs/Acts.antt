@@ -13,9 +13,10 @@ use Rattle.effect_model.specs.Acts.{host_of, host_refused, is_free, with_use}
 use Rattle.effect_model.specs.Commands.{new_world, with_new_cell, with_new_computed}
 use Rattle.effect_model.specs.Watchers.{signals_at_rest}
 use Rattle.sig_host.specs.Hosts.{HostPlace, count_at, is_there as is_there_at}
-use Rattle.sig_nodes.specs.Answers.{host_here, uses_host}
-use Rattle.sig_nodes.specs.States.{Seen, State, Makes, is_computing, is_given}
-use Rattle.sig_nodes.specs.States as states
+use Rattle.sig_nodes.specs.Answers.{host_here}
+use Rattle.sig_graph.specs.HostUse.{uses_host}
+use Rattle.sig_graph.specs.States.{Seen, State, Makes, is_computing, is_given}
+use Rattle.sig_graph.specs.States as states
 use Rattle.sig_watcher.specs.Tables.{Table}
 use Rattle.sig_computed.specs.Asked.{AreThere}
 use Rattle.sig_effect.specs.declared.events.Event.{Event}

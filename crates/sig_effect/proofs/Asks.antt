@@ -10,7 +10,8 @@ use Rattle.effect_model.specs.Commands.{new_world}
 use Rattle.effect_model.specs.Worlds as plain
 use Rattle.effect_model.specs.Worlds.{asked_by, asked_more, ran}
 use Rattle.sig_host.specs.Hosts.{HostPlace, count_at, is_there, place_after, places_after, place_at}
-use Rattle.sig_nodes.specs.Answers.{host_here, uses_host}
+use Rattle.sig_nodes.specs.Answers.{host_here}
+use Rattle.sig_graph.specs.HostUse.{uses_host}
 use Rattle.sig_watcher.specs.Tables.{Table}
 use Rattle.sig_computed.specs.declared.notes.RunNote.{RunNote}
 use Rattle.sig_computed.specs.Asked.{IsAsking, StayThere}

@@ -19,8 +19,8 @@ use Rattle.effect_model.specs.Acts.{are_alike, is_notified_by_any, notified_by_a
 use Rattle.effect_model.specs.Commands.{new_world}
 use Rattle.effect_model.specs.Batches.{Batch, abort, commit, is_other, joined, joined_by, joined_replaced, net_of, replaced_by, set_quietly, with_replacing}
 use Rattle.sig_host.specs.Hosts.{HostPlace}
-use Rattle.sig_nodes.specs.Answers.{uses_host}
-use Rattle.sig_nodes.specs.States.{Seen, State, Becomes, is_computing, is_given, with_set}
+use Rattle.sig_graph.specs.HostUse.{uses_host}
+use Rattle.sig_graph.specs.States.{Seen, State, Becomes, is_computing, is_given, with_set}
 use Rattle.sig_watcher.specs.Tables.{Table, with_each}
 use Rattle.sig_watcher.specs.Notices.{told_entry}
 use Rattle.sig_computed.specs.Asked.{AreThere}

@@ -19,8 +19,9 @@ use Rattle.effect_model.specs.Acts.{are_alike, asks_so_far, forget, frozen_by, h
 use Rattle.effect_model.specs.Commands.{new_world}
 use Rattle.sig_host.specs.Hosts.{HostPlace, count_at, most_asked}
 use Rattle.sig_host.proofs.Shared.{most_asked-dropped}
-use Rattle.sig_nodes.specs.Answers.{host_here, host_place, uses_host}
-use Rattle.sig_nodes.specs.States.{Seen, State, Becomes, are_there, is_computing, with_disposal, with_rewiring, with_set}
+use Rattle.sig_nodes.specs.Answers.{host_here, host_place}
+use Rattle.sig_graph.specs.HostUse.{uses_host}
+use Rattle.sig_graph.specs.States.{Seen, State, Becomes, are_there, is_computing, with_disposal, with_rewiring, with_set}
 use Rattle.sig_watcher.specs.Tables.{Table, with_each, with_removal}
 use Rattle.sig_watcher.specs.Notices.{told_entry}
 use Rattle.sig_watcher.proofs.Shared.{entries_told, entries_frozen}

@@ -10,8 +10,8 @@ use Rattle.effect_model.specs.declared.how.How.TheVariants.{Gone as Ended}
 use Rattle.effect_model.specs.Worlds.{Watcher, watcher_numbers}
 use Rattle.effect_model.specs.Acts.{frozen_by}
 use Rattle.sig_host.specs.Hosts.{HostPlace}
-use Rattle.sig_nodes.specs.States.{Seen, is_given}
-use Rattle.sig_nodes.proofs.Shared.{given_same}
+use Rattle.sig_graph.specs.States.{Seen, is_given}
+use Rattle.sig_graph.proofs.Shared.{given_same}
 use Rattle.sig_computed.specs.declared.notes.RunNote.{RunNote}
 use Rattle.sig_computed.specs.Notes.{note_of, AreNotesGiven}
 use Rattle.sig_watcher.specs.Numbers.{AreNumbered, Rises}

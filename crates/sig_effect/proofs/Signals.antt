@@ -15,7 +15,7 @@ use Rattle.signal_laws.proofs.Shared.{found_other}
 use Rattle.effect_model.specs.Worlds.{Watcher}
 use Rattle.effect_model.specs.Acts.{forget}
 use Rattle.sig_nodes.specs.Answers.{host_here, rule_here}
-use Rattle.sig_nodes.specs.States.{Progress, Seen, is_given, progress_at}
+use Rattle.sig_graph.specs.States.{Progress, Seen, is_given, progress_at}
 use Rattle.sig_state.specs.Equality.{IsRuled}
 use Rattle.sig_effect.specs.Stores.{AreListed, AreRuled, AreWatched}
 use Rattle.effect_tables.proofs.Shared.{all_behind, all_weaker}

@@ -5,8 +5,8 @@ use Rattle.signal_model.specs.Kept.{AreKept}
 use Rattle.signal_laws.proofs.Shared.{empty_law}
 use Rattle.effect_model.specs.Commands.{new_world}
 use Rattle.sig_host.specs.Hosts.{HostPlace, count_at}
-use Rattle.sig_nodes.specs.Answers.{uses_host}
-use Rattle.sig_nodes.specs.States.{Seen, State, no_state}
+use Rattle.sig_graph.specs.HostUse.{uses_host}
+use Rattle.sig_graph.specs.States.{Seen, State, no_state}
 use Rattle.sig_watcher.specs.Tables.{Table, no_watchers}
 use Rattle.sig_effect.specs.Wholes.{host_states, whole_of}
 use Rattle.sig_computed.specs.Asked.{AreThere}

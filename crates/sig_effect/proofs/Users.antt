@@ -11,7 +11,8 @@ use Rattle.effect_model.specs.Worlds.{HostState, used, dropped}
 use Rattle.effect_model.specs.Acts.{asks_so_far, host_of}
 use Rattle.sig_host.specs.Hosts.{HostPlace, count_at, is_there}
 use Rattle.sig_host.proofs.Shared.{is_there-dropped, count_at-dropped}
-use Rattle.sig_nodes.specs.Answers.{host_here, host_place, some_asks, uses_host}
+use Rattle.sig_nodes.specs.Answers.{host_here, host_place}
+use Rattle.sig_graph.specs.HostUse.{some_asks, uses_host}
 use Rattle.sig_computed.specs.Asked.{AreThere}
 use Rattle.sig_effect.specs.Stores.{AreListed, AreOwn, AreUnasked}
 use Rattle.sig_effect.specs.Results.{dropped_if}

@@ -9,7 +9,7 @@ use Rattle.effect_model.specs.Worlds.{Watcher}
 use Rattle.effect_model.specs.Acts.{forget}
 use Rattle.effect_model.specs.Commands.{also_watched, armed}
 use Rattle.effect_laws.proofs.Shared.{both}
-use Rattle.sig_nodes.specs.States.{are_there}
+use Rattle.sig_graph.specs.States.{are_there}
 use Rattle.sig_effect.specs.Stores.{AreWatched}
 
 -- the number of a watcher

@@ -1,7 +1,7 @@
 -- What the stores answer, as the world answers it.
 use Rattle.std.specs.Prelude.{Bool, true, false}
-use Rattle.sig_nodes.specs.declared.errors.NodeFault.{NodeFault}
-use Rattle.sig_nodes.specs.declared.errors.NodeFault.TheVariants as node
+use Rattle.sig_graph.specs.declared.errors.NodeFault.{NodeFault}
+use Rattle.sig_graph.specs.declared.errors.NodeFault.TheVariants as node
 use Rattle.sig_state.specs.declared.sets.SetDone.{SetDone}
 use Rattle.sig_state.specs.declared.sets.SetDone.TheVariants.{Accepted, Same}
 use Rattle.sig_watcher.specs.declared.errors.WatchFault.{WatchFault}

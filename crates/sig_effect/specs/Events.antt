@@ -6,7 +6,7 @@ use Rattle.effect_model.specs.Owners.{the_effect, Cleanup as CleanupAct}
 use Rattle.effect_model.specs.Worlds as told
 use Rattle.effect_tables.specs.declared.thing.Thing.TheVariants as thing
 use Rattle.effect_tables.specs.Bodies.{thing_of}
-use Rattle.sig_nodes.specs.States.{Seen, is_given}
+use Rattle.sig_graph.specs.States.{Seen, is_given}
 use Rattle.sig_computed.specs.Notes.{note_of, run_note, IsNoteGiven, Note}
 use Rattle.sig_effect.specs.declared.events.Event.{Event}
 use Rattle.sig_effect.specs.declared.events.Event.TheVariants as event

@@ -9,7 +9,8 @@ use Rattle.effect_model.specs.Worlds.{Watcher}
 use Rattle.effect_model.specs.Watchers.{signals_at_rest}
 use Rattle.sig_host.specs.Hosts as places
 use Rattle.sig_host.specs.Hosts.{HostPlace, count_at, unasked_place}
-use Rattle.sig_nodes.specs.Answers.{host_here, uses_host}
+use Rattle.sig_nodes.specs.Answers.{host_here}
+use Rattle.sig_graph.specs.HostUse.{uses_host}
 use Rattle.sig_state.specs.Equality.{IsRuled}
 use Rattle.sig_computed.specs.Notes.{IsIdle}
 use Rattle.sig_computed.specs.Asked.{AreThere}

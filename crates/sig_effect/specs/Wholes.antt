@@ -4,8 +4,8 @@ use Rattle.effect_model.specs.Commands.{new_world}
 use Rattle.effect_model.specs.Worlds as plain
 use Rattle.effect_model.specs.Worlds.{HostState, unused, used, dropped}
 use Rattle.sig_host.specs.Hosts.{HostPlace}
-use Rattle.sig_nodes.specs.Answers.{uses_host}
-use Rattle.sig_nodes.specs.States.{Seen}
+use Rattle.sig_graph.specs.HostUse.{uses_host}
+use Rattle.sig_graph.specs.States.{Seen}
 use Rattle.sig_watcher.specs.Tables.{Table}
 
 -- how the host formula of a place stands, by whether a computed asks it: dropped where it isn't there, used where one does, and else unused

@@ -4,7 +4,7 @@ ghost use Rattle.sig_effect.specs.declared.errors.EffectFault.TheVariants as fau
 ghost use Rattle.sig_effect.specs.Answers.{of_node_fault, of_watch_fault};
 
 use sig_base::NoMemory;
-use sig_nodes::NodeFault;
+use sig_graph::NodeFault;
 use sig_watcher::WatchFault;
 use std::alloc::{AllocError, AllocFailed};
 use thiserror::Error;

@@ -3,8 +3,7 @@ use Rattle.std.proofs.Common.{◌≡◌, Bool, true, false, take, if◌then◌el
 use Rattle.std.specs.Prelude.{slice_get, slice_index_or}
 use Rattle.signal_model.specs.Memos.{Source, source_names}
 use Rattle.sig_base.specs.declared.value.Known.{Known}
-use Rattle.sig_nodes.specs.States.{GoesOn}
-use Rattle.sig_nodes.specs.Computations.{paired}
+use Rattle.sig_nodes.specs.Computations.{GoesOn, paired}
 
 -- their names are those
 pub names_paired : (ns : List ℕ) (ms : List (Option ℕ)) → length ns ≡ length ms → source_names (paired ns ms) ≡ ns

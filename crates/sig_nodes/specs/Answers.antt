@@ -1,5 +1,5 @@
--- What a graph answers about one signal.
-use Rattle.std.specs.Prelude.{◌≡◌, ℕ, ◌≤◌, ◌||◌, Bool, false, List, [], ◌∷◌, length, Option, Some, None, if◌then◌else◌}
+-- What is asked of a computed, and what is answered about one signal.
+use Rattle.std.specs.Prelude.{◌≡◌, ℕ, ◌≤◌, Bool, List, [], length, Option, Some, None, if◌then◌else◌}
 use Rattle.sig_base.specs.declared.limits.TheConstants.{MOST_SOURCES}
 use Rattle.sig_base.specs.declared.value.Value.{Value}
 use Rattle.sig_base.specs.declared.value.Known.{Known}
@@ -12,10 +12,7 @@ use Rattle.sig_base.specs.declared.value.Outcome.TheVariants.{Good, Bad}
 use Rattle.sig_formula.specs.Trees.{tree}
 use Rattle.signal_model.specs.Recipes as recipes
 use Rattle.signal_model.specs.Recipes.{Hosts, recipe_answer, IsUnknownSlot}
-use Rattle.signal_model.specs.Signals as signals
-use Rattle.signal_model.specs.Signals.{Signals, Stands, IsGone, IsCell, IsComputed, standing}
-use Rattle.signal_model.specs.Memos.{Source, differs}
-use Rattle.signal_model.specs.Asks.{is_host}
+use Rattle.signal_model.specs.Signals.{Stands, IsGone, IsCell, IsComputed}
 use Rattle.signal_model.specs.Marks as marks
 use Rattle.sig_nodes.specs.declared.answers.Recipe.{Recipe}
 use Rattle.sig_nodes.specs.declared.answers.Recipe.TheVariants.{Formula, Host}
@@ -25,7 +22,6 @@ use Rattle.sig_nodes.specs.declared.answers.Mark.{Mark}
 use Rattle.sig_nodes.specs.declared.answers.Mark.TheVariants.{Clean, Checked, Dirty}
 use Rattle.sig_nodes.specs.declared.answers.Standing.{Standing}
 use Rattle.sig_nodes.specs.declared.answers.Standing.TheVariants.{Gone, Cell, Computed, Computing}
-use Rattle.sig_nodes.specs.States.{State, is_computing}
 
 -- what is asked, with the formula as a tree
 abbrev pub expression_of : Recipe → recipes.Expression
@@ -36,10 +32,6 @@ expression_of (Host place) = recipes.host place
 abbrev pub HasFewSlots : recipes.Expression → List ℕ → Type 0
 HasFewSlots (recipes.formula row t) slots = Unit {0}
 HasFewSlots (recipes.host place) slots = length slots ≤ MOST_SOURCES
-
--- so has each that a computed asks
-pub record HaveFewSlots (w : Signals) : Type 0 where
-  pub each : (n : ℕ) (c : signals.Computed) → standing w n ≡ IsComputed c → HasFewSlots c.recipe.expression c.recipe.slots
 
 -- the place of the host formula that is asked, none for a formula
 abbrev pub host_place : recipes.Expression → Option ℕ
@@ -114,20 +106,6 @@ abbrev pub shown_here : Stands → Bool → Option Outcome → Outcome
 shown_here IsGone b o = Bad fault.Gone
 shown_here (IsCell c) b o = Good c.value
 shown_here (IsComputed c) b o = shown_computed b o
-
--- whether one of these computeds asks the host formula at a place
-abbrev pub some_asks : ℕ → List signals.Computed → Bool
-some_asks place [] = false
-some_asks place (c ∷ cs) = is_host place c.recipe.expression || some_asks place cs
-
--- whether a computed that stands does
-abbrev pub uses_host : Signals → ℕ → Bool
-uses_host w place = some_asks place w.computeds
-
--- whether a kept source has another number than the one that was read, or is computing
-abbrev pub has_moved : State → Option Source → Bool
-has_moved s None = false
-has_moved s (Some source) = differs s.memos source || is_computing s source.name
 
 -- a mark as the definitions have it
 abbrev pub mark_meant : Mark → marks.Mark

@@ -1,5 +1,5 @@
 -- What is kept of one computed.
-use Rattle.std.specs.Prelude.{ℕ, List, [], ◌∷◌, Option, false}
+use Rattle.std.specs.Prelude.{ℕ, List, [], ◌∷◌, Option, false, ◌≡◌, length, take, Some, None}
 use Rattle.sig_base.specs.declared.value.Known.{Known}
 use Rattle.sig_base.specs.declared.value.Outcome.{Outcome}
 use Rattle.signal_model.specs.Recipes.{Expression, Recipe}
@@ -29,3 +29,8 @@ recipe_made e slots = record { expression = e; slots = slots }
 -- a generation, in which nothing is kept
 abbrev pub at_generation : ℕ → Memos
 at_generation generation = record { generation = generation; entries = [] }
+
+-- whether an evaluation that is under way goes on with these values: they begin with those that its recipe was last asked with
+abbrev pub GoesOn : Option (List Known) → List Known → Type 0
+GoesOn None known = ⊥
+GoesOn (Some earlier) known = take (length earlier) known ≡ earlier

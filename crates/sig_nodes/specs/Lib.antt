@@ -1,13 +1,7 @@
 pub mod Listed
-pub mod States
-pub mod StateMarks
 pub mod Answers
 pub mod Computations
 pub mod Nodes
-pub mod Seats
-pub mod Places
-pub mod Search
-pub mod Looks
 pub mod Pauses
 pub mod Reading
 pub mod Gaps

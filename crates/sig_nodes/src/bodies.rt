@@ -6,17 +6,15 @@ ghost use Rattle.signal_model.specs.Memos.{memo_is_cycle, same_number, source_na
 ghost use Rattle.signal_model.specs.Sound.{kept_outcome};
 ghost use Rattle.sig_nodes.specs.declared.node.Body.TheVariants as body;
 ghost use Rattle.sig_nodes.specs.Answers.{host_here, kind_here, rule_here, shown_computed, slots_here, value_here};
-ghost use Rattle.sig_nodes.specs.Nodes.{are_live_bodies, asks_host_body, asks_host_here, body_at, change_at, has_moved_body, is_computed_body, is_live_body, known_body, memo_body, number_at, number_body, seat_at, shown_body, slots_body, stands_of};
-ghost use Rattle.sig_nodes.specs.Search.{of_holder, some_holder};
+ghost use Rattle.sig_nodes.specs.Nodes.{are_live_bodies, asks_host_body, body_at, change_at, has_moved_body, is_computed_body, is_live_body, known_body, memo_body, number_at, number_body, seat_at, shown_body, slots_body, stands_of};
 
 use crate::answers::Standing;
 use crate::node::{Body, Computation, Node, Source};
 use crate::nodes::Nodes;
-use crate::seats::Seats;
 use sig_base::{Fault, NoMemory, NodeId, Outcome, Value};
 
 /// What lives at a place, none past the last place.
-pub(crate) fn body_at(nodes: &Nodes, id: NodeId) -> Option<&Body>
+pub fn body_at(nodes: &Nodes, id: NodeId) -> Option<&Body>
     ensures some { IfSome result (λ b. b.now ≡ body_at nodes.now.items id) }
     ensures none { IfNone result (body_at nodes.now.items id ≡ body.Gone) }
 {
@@ -27,7 +25,7 @@ pub(crate) fn body_at(nodes: &Nodes, id: NodeId) -> Option<&Body>
 }
 
 /// The computed that lives there.
-pub(crate) fn computation_at(nodes: &Nodes, id: NodeId) -> Option<&Computation>
+pub fn computation_at(nodes: &Nodes, id: NodeId) -> Option<&Computation>
     ensures some { IfSome result (λ c. body_at nodes.now.items id ≡ body.Computed c.now) }
     ensures none { IfNone result (is_computed_body (body_at nodes.now.items id) ≡ false) }
 {
@@ -38,7 +36,7 @@ pub(crate) fn computation_at(nodes: &Nodes, id: NodeId) -> Option<&Computation>
 }
 
 /// Whether a computed lives in a body.
-pub(crate) fn is_computed(body: &Body) -> bool
+pub fn is_computed(body: &Body) -> bool
     ensures { result ≡ is_computed_body body.now }
 {
     match body {
@@ -48,7 +46,7 @@ pub(crate) fn is_computed(body: &Body) -> bool
 }
 
 /// The seat of a live signal.
-pub(crate) fn seat_at(nodes: &Nodes, id: NodeId) -> usize
+pub fn seat_at(nodes: &Nodes, id: NodeId) -> usize
     ensures { result ≡ seat_at nodes.now.items id }
 {
     match nodes.at(id) {
@@ -58,7 +56,7 @@ pub(crate) fn seat_at(nodes: &Nodes, id: NodeId) -> usize
 }
 
 /// Whether a signal lives there.
-pub(crate) fn is_live_at(nodes: &Nodes, id: NodeId) -> bool
+pub fn is_live_at(nodes: &Nodes, id: NodeId) -> bool
     ensures { result ≡ is_live_body (body_at nodes.now.items id) }
 {
     match body_at(nodes, id) {
@@ -81,14 +79,14 @@ fn are_live_at(nodes: &Nodes, ids: &[NodeId]) -> bool
 }
 
 /// Whether a signal lives there, and all that its slots would stand for.
-pub(crate) fn is_linkable_at(nodes: &Nodes, id: NodeId, slots: &[NodeId]) -> bool
+pub fn is_linkable_at(nodes: &Nodes, id: NodeId, slots: &[NodeId]) -> bool
     ensures { result ≡ are_live_bodies nodes.now.items (id ∷ slots.now) }
 {
     is_live_at(nodes, id) && are_live_at(nodes, slots)
 }
 
 /// What stands there.
-pub(crate) fn standing_at(nodes: &Nodes, id: NodeId) -> Standing
+pub fn standing_at(nodes: &Nodes, id: NodeId) -> Standing
     ensures { result ≡ kind_here (stands_of id (body_at nodes.now.items id)) (is_some (known_body (body_at nodes.now.items id))) }
 {
     match body_at(nodes, id) {
@@ -115,7 +113,7 @@ fn is_computing(body: &Body) -> bool
 }
 
 /// A cell's value.
-pub(crate) fn value_at(nodes: &Nodes, id: NodeId) -> Option<&Value>
+pub fn value_at(nodes: &Nodes, id: NodeId) -> Option<&Value>
     ensures { option_copied result ≡ value_here (stands_of id (body_at nodes.now.items id)) }
 {
     match body_at(nodes, id) {
@@ -125,7 +123,7 @@ pub(crate) fn value_at(nodes: &Nodes, id: NodeId) -> Option<&Value>
 }
 
 /// The place of a cell's equality rule.
-pub(crate) fn rule_at(nodes: &Nodes, id: NodeId) -> Option<usize>
+pub fn rule_at(nodes: &Nodes, id: NodeId) -> Option<usize>
     ensures { result ≡ rule_here (stands_of id (body_at nodes.now.items id)) }
 {
     match body_at(nodes, id) {
@@ -135,7 +133,7 @@ pub(crate) fn rule_at(nodes: &Nodes, id: NodeId) -> Option<usize>
 }
 
 /// The place of the host formula that a computed asks.
-pub(crate) fn host_at(nodes: &Nodes, id: NodeId) -> Option<usize>
+pub fn host_at(nodes: &Nodes, id: NodeId) -> Option<usize>
     ensures { result ≡ host_here (stands_of id (body_at nodes.now.items id)) }
 {
     match body_at(nodes, id) {
@@ -144,8 +142,8 @@ pub(crate) fn host_at(nodes: &Nodes, id: NodeId) -> Option<usize>
     }
 }
 
-// Whether a computed asks the host formula at a place.
-fn asks_host_at(nodes: &Nodes, id: NodeId, place: usize) -> bool
+/// Whether a computed asks the host formula at a place.
+pub fn asks_host_at(nodes: &Nodes, id: NodeId, place: usize) -> bool
     ensures { result ≡ asks_host_body place (body_at nodes.now.items id) }
 {
     match body_at(nodes, id) {
@@ -154,30 +152,8 @@ fn asks_host_at(nodes: &Nodes, id: NodeId, place: usize) -> bool
     }
 }
 
-// Whether who has a seat does; of a free seat nobody.
-fn holder_asks(nodes: &Nodes, holder: Option<NodeId>, place: usize) -> bool
-    ensures { result ≡ of_holder (asks_host_here place nodes.now.items) holder }
-{
-    match holder {
-        Some(id) => asks_host_at(nodes, id, place),
-        None => false,
-    }
-}
-
-/// Whether one of those who have seats asks the host formula at a place.
-pub(crate) fn uses_host(nodes: &Nodes, seats: &Seats, place: usize) -> bool
-    ensures { result ≡ some_holder (asks_host_here place nodes.now.items) seats.now.holders }
-{
-    for holder in seats.holders() {
-        if holder_asks(nodes, *holder, place) {
-            return true;
-        }
-    }
-    false
-}
-
 /// The signals that a computed's slots stand for.
-pub(crate) fn slots_at(nodes: &Nodes, id: NodeId) -> &[NodeId]
+pub fn slots_at(nodes: &Nodes, id: NodeId) -> &[NodeId]
     ensures { result.now ≡ slots_body (body_at nodes.now.items id) }
 {
     match body_at(nodes, id) {
@@ -187,7 +163,7 @@ pub(crate) fn slots_at(nodes: &Nodes, id: NodeId) -> &[NodeId]
 }
 
 /// The signal that a computed's slot stands for.
-pub(crate) fn slot_at(nodes: &Nodes, id: NodeId, slot: u32) -> Option<NodeId>
+pub fn slot_at(nodes: &Nodes, id: NodeId, slot: u32) -> Option<NodeId>
     ensures { result ≡ slice_get (slots_body (body_at nodes.now.items id)) slot }
 {
     match body_at(nodes, id) {
@@ -197,7 +173,7 @@ pub(crate) fn slot_at(nodes: &Nodes, id: NodeId, slot: u32) -> Option<NodeId>
 }
 
 /// The outcome that a computed keeps.
-pub(crate) fn kept_at(nodes: &Nodes, id: NodeId) -> Option<&Outcome>
+pub fn kept_at(nodes: &Nodes, id: NodeId) -> Option<&Outcome>
     ensures { option_copied result ≡ kept_outcome (memo_body (body_at nodes.now.items id)) }
 {
     match body_at(nodes, id) {
@@ -241,7 +217,7 @@ fn shown(body: &Body) -> Result<Outcome, NoMemory>
 }
 
 /// What a signal is read as.
-pub(crate) fn shown_at(nodes: &Nodes, id: NodeId) -> Result<Outcome, NoMemory>
+pub fn shown_at(nodes: &Nodes, id: NodeId) -> Result<Outcome, NoMemory>
     ensures { IfOk result (λ o. o ≡ shown_body (body_at nodes.now.items id)) }
 {
     match body_at(nodes, id) {
@@ -251,7 +227,7 @@ pub(crate) fn shown_at(nodes: &Nodes, id: NodeId) -> Result<Outcome, NoMemory>
 }
 
 /// The sources that a computed keeps.
-pub(crate) fn sources_at(nodes: &Nodes, id: NodeId) -> &[NodeId]
+pub fn sources_at(nodes: &Nodes, id: NodeId) -> &[NodeId]
     ensures { result.now ≡ source_names (sources_in (memo_body (body_at nodes.now.items id))) }
 {
     match body_at(nodes, id) {
@@ -281,7 +257,7 @@ fn number_of(node: &Node) -> Option<u128>
 
 /// The present change numbers of these, in place of what stood in a list.
 #[inline(always)]
-pub(crate) fn numbers_now(
+pub fn numbers_now(
     numbers: &mut Vec<Option<u128>>,
     nodes: &Nodes,
     ids: &[NodeId],
@@ -307,7 +283,7 @@ fn same_number(a: Option<u128>, b: Option<u128>) -> bool
 }
 
 /// Whether a source has another number than the one that was read.
-pub(crate) fn differs(nodes: &Nodes, source: Source) -> bool
+pub fn differs(nodes: &Nodes, source: Source) -> bool
     ensures { result ≡ not (same_number (number_at nodes.now.items source.name) source.number) }
 {
     !same_number(number_at(nodes, source.name), source.number)
@@ -345,8 +321,8 @@ fn compared(nodes: &Nodes, computation: &Computation, place: usize) -> Option<bo
     }
 }
 
-/// The same of the computed that lives there.
-pub(crate) fn compared_at(nodes: &Nodes, id: NodeId, place: usize) -> Option<bool>
+/// Whether the source that a computed keeps at a place has moved, none where it holds `cycle`.
+pub fn compared_at(nodes: &Nodes, id: NodeId, place: usize) -> Option<bool>
     ensures calm { IfSome result (λ m. memo_is_cycle (memo_body (body_at nodes.now.items id)) ≡ false) }
     ensures moved { IfSome result (λ m. m ≡ has_moved_body nodes.now.items (slice_get (sources_in (memo_body (body_at nodes.now.items id))) place)) }
     ensures cycle { IfNone result (memo_is_cycle (memo_body (body_at nodes.now.items id)) ≡ true) }

@@ -1,29 +1,20 @@
-//! The store of signals: cells and computeds by id, what is kept of their evaluations, and how each stands.
+//! The nodes of signals by id: what lives in each, what is kept of a computed, and what an edit of one node makes of it.
 #![tactic(auto)]
 
 mod answers;
 mod bodies;
-mod end_marks;
-mod errors;
-mod evaluation;
-mod finds;
-mod graph;
 mod id_lists;
-mod links;
-mod looks;
-mod marks;
 mod node;
 mod nodes;
-mod queries;
-mod reading;
-mod search;
-mod search_marks;
-mod seats;
-mod spares;
 mod store;
-mod trail;
 
 pub use answers::{Asked, Mark, Recipe, Standing};
-pub use errors::NodeFault;
-pub use graph::Graph;
+pub use bodies::{
+    asks_host_at, body_at, compared_at, computation_at, differs, host_at, is_computed,
+    is_linkable_at, is_live_at, kept_at, numbers_now, rule_at, seat_at, shown_at, slot_at,
+    slots_at, sources_at, standing_at, value_at,
+};
 pub use id_lists::IdList;
+pub use node::{Body, Computation, Memo, Node, Source, is_cycle};
+pub use nodes::Nodes;
+pub use store::{ask_at, begin_at, end_at, keep_memo_at, renew_memo_at, rewire_at, set_value_at};

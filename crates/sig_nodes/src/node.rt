@@ -8,9 +8,8 @@ ghost use Rattle.signal_model.specs.Memos.{is_cycle, is_stale_by, memo_is_cycle,
 ghost use Rattle.signal_model.specs.Sound.{kept_outcome};
 ghost use Rattle.signal_model.specs.Settling.{has_outcome};
 ghost use Rattle.signal_model.specs.Changes.{memo_rewired};
-ghost use Rattle.sig_nodes.specs.States.{GoesOn};
+ghost use Rattle.sig_nodes.specs.Computations.{GoesOn, at_generation, paired, recipe_made, renewed};
 ghost use Rattle.sig_nodes.specs.Answers.{expression_of, host_place, IsAnswerOf, IsJudgedAnswer, IsStepAnswer};
-ghost use Rattle.sig_nodes.specs.Computations.{at_generation, paired, recipe_made, renewed};
 ghost use Rattle.sig_nodes.specs.Pauses.{IsHeldOf};
 ghost use Rattle.sig_nodes.specs.Reading.{IsToldOf};
 ghost use Rattle.sig_base.specs.declared.value.Outcome.TheVariants.{Good};
@@ -32,7 +31,7 @@ use std::mem;
 
 /// A source that was read, with its change number at that time, none for gone.
 #[derive(Clone, Copy)]
-pub(crate) struct Source {
+pub struct Source {
     pub(crate) name: NodeId,
     pub(crate) number: Option<u128>,
 }
@@ -50,7 +49,7 @@ impl Model for Source {
 /// What a run left: its outcome, its sources in order and the numbers that were read of them, the generation at that time, and
 /// whether the computed was rewired since.
 #[derive(Drop)]
-pub(crate) struct Memo {
+pub struct Memo {
     outcome: Outcome,
     sources: IdList,
     numbers: Vec<Option<u128>>,
@@ -77,7 +76,7 @@ impl Model for Memo {
 
 impl Memo {
     /// What a run leaves in this generation, by its sources and their numbers.
-    pub(crate) fn new(
+    pub fn new(
         outcome: Outcome,
         sources: IdList,
         numbers: Vec<Option<u128>>,
@@ -159,7 +158,7 @@ impl Memo {
 }
 
 /// Whether an outcome is the fault `cycle`.
-pub(crate) fn is_cycle(outcome: &Outcome) -> bool
+pub fn is_cycle(outcome: &Outcome) -> bool
     ensures { result ≡ is_cycle outcome.now }
 {
     match outcome {
@@ -171,7 +170,7 @@ pub(crate) fn is_cycle(outcome: &Outcome) -> bool
 /// What is kept of a computed, and while it is computing the values that its recipe was last asked with, and where the evaluation of its
 /// formula stands by them.
 #[derive(Drop)]
-pub(crate) struct Computation {
+pub struct Computation {
     // what others look at stands together in front, as nodes are many and each is looked at often
     memo: Option<Memo>,
     computing: bool,
@@ -193,7 +192,7 @@ impl Model for Computation {
 
     ghost coded = { Prim.hlevel (codes, tree_code) };
 
-    ghost use Rattle.sig_nodes.specs.States.{GoesOn};
+    ghost use Rattle.sig_nodes.specs.Computations.{GoesOn};
     ghost use Rattle.sig_nodes.specs.Answers.{expression_of};
     ghost use Rattle.sig_nodes.specs.Pauses.{IsHeld};
 
@@ -208,7 +207,7 @@ impl Model for Computation {
 
 impl Computation {
     /// One that has not run.
-    pub(crate) fn new(alloc: Global, recipe: Recipe, slots: Vec<NodeId>) -> Computation
+    pub fn new(alloc: Global, recipe: Recipe, slots: Vec<NodeId>) -> Computation
         ensures { result ≡ record { recipe = recipe_made (expression_of recipe) slots.items; memo = None; known = None } }
     {
         Computation {
@@ -221,14 +220,15 @@ impl Computation {
         }
     }
 
-    pub(crate) fn is_computing(&self) -> bool
+    /// Whether it is being evaluated.
+    pub fn is_computing(&self) -> bool
         ensures { result ≡ is_some self.now.known }
     {
         self.computing
     }
 
-    /// The signal that a slot stands for.
-    pub(crate) fn slot(&self, slot: u32) -> Option<NodeId>
+    /// The signal that a slot stands for; none where there is no such slot.
+    pub fn slot(&self, slot: u32) -> Option<NodeId>
         ensures { result ≡ slice_get self.now.recipe.slots slot }
     {
         self.slots.get(slot as usize).copied()
@@ -250,7 +250,8 @@ impl Computation {
         }
     }
 
-    pub(crate) fn sources(&self) -> &[NodeId]
+    /// The sources of the run that it keeps, in order of first reading; none where it has never run.
+    pub fn sources(&self) -> &[NodeId]
         ensures { result.now ≡ source_names (sources_in self.now.memo) }
     {
         match &self.memo {
@@ -259,8 +260,9 @@ impl Computation {
         }
     }
 
-    /// The sources of the run that it keeps, in the list that the run has.
-    pub(crate) fn shared_sources(&self) -> Result<IdList, NoMemory>
+    /// The sources of the run that it keeps, in the list that the run has; it's for computeds that keep one. NoMemory where no further name of
+    /// the list can be counted.
+    pub fn shared_sources(&self) -> Result<IdList, NoMemory>
         requires { is_some self.now.memo ≡ true }
         ensures { IfOk result (λ l. l.items ≡ source_names (sources_in self.now.memo)) }
     {
@@ -270,7 +272,8 @@ impl Computation {
         }
     }
 
-    pub(crate) fn source(&self, place: usize) -> Option<Source>
+    /// The source at a place of the run that it keeps, with the number that was read.
+    pub fn source(&self, place: usize) -> Option<Source>
         ensures { result ≡ slice_get (sources_in self.now.memo) place }
     {
         match &self.memo {
@@ -279,7 +282,8 @@ impl Computation {
         }
     }
 
-    pub(crate) fn is_stale(&self, generation: u128) -> bool
+    /// Whether it has to run whatever its sources are, in this generation.
+    pub fn is_stale(&self, generation: u128) -> bool
         ensures { result ≡ is_stale_by (at_generation generation) self.now.memo }
     {
         match &self.memo {
@@ -289,7 +293,7 @@ impl Computation {
     }
 
     /// Whether the memo is the fault `cycle`.
-    pub(crate) fn holds_cycle(&self) -> bool
+    pub fn holds_cycle(&self) -> bool
         ensures { result ≡ memo_is_cycle self.now.memo }
     {
         match &self.memo {
@@ -317,7 +321,7 @@ impl Computation {
 
     /// The good value that it is read as, none where it shows a fault or is being evaluated.
     #[inline(always)]
-    pub(crate) fn value(&self) -> Option<&Value>
+    pub fn value(&self) -> Option<&Value>
         ensures calm { IfSome result (λ v. is_some self.now.known ≡ false) }
         ensures value { IfSome result (λ v. kept_outcome self.now.memo ≡ Some (Good v.now)) }
     {
@@ -332,7 +336,7 @@ impl Computation {
 
     /// What is told at once of the recipe by the values known so far: nothing of a host formula.
     #[inline(always)]
-    pub(crate) fn told(&self, known: &[Known], outcome: &mut Outcome) -> Result<Told, NoMemory>
+    pub fn told(&self, known: &[Known], outcome: &mut Outcome) -> Result<Told, NoMemory>
         ensures { IfOk result (λ t. IsToldOf self.now.recipe known.now t outcome.new) }
     {
         match &self.recipe {
@@ -345,7 +349,7 @@ impl Computation {
     }
 
     /// The signals that the slots stand for.
-    pub(crate) fn slots(&self) -> &[NodeId]
+    pub fn slots(&self) -> &[NodeId]
         ensures { result.now ≡ self.now.recipe.slots }
     {
         &self.slots
@@ -402,7 +406,7 @@ impl Computation {
     }
 
     /// Whether it keeps a run.
-    pub(crate) fn has_run(&self) -> bool
+    pub fn has_run(&self) -> bool
         ensures { result ≡ is_some self.now.memo }
     {
         match &self.memo {
@@ -444,20 +448,21 @@ impl Computation {
 
 /// What lives in a node.
 #[derive(Drop)]
-pub(crate) enum Body {
+pub enum Body {
     /// Nothing. No node is kept of such a signal: clauses see this where there is none.
     Gone,
     /// A value, and the place of an equality rule.
     Cell(Value, Option<usize>),
+    /// What is kept of a computed.
     Computed(Computation),
 }
 
 /// One signal's node: its change number, its seat, and what lives in it.
 #[derive(Drop)]
-pub(crate) struct Node {
-    pub(crate) number: u128,
-    pub(crate) seat: usize,
-    pub(crate) body: Body,
+pub struct Node {
+    pub number: u128,
+    pub seat: usize,
+    pub body: Body,
 }
 
 // Empties a list of values. Most are empty before.

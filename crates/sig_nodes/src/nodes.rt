@@ -12,7 +12,7 @@ use std::marker::Model;
 
 /// The node of each signal that lives, by the number of its id. A signal that is gone leaves no node behind.
 #[derive(Drop)]
-pub(crate) struct Nodes {
+pub struct Nodes {
     store: Store<Node>,
 }
 
@@ -34,7 +34,7 @@ impl Nodes {
     ghost use Rattle.sig_nodes.specs.Lends.{lends_node};
 
     /// No signal was made. There is room for as many as may live.
-    pub(crate) fn new(alloc: Global) -> Result<Nodes, NoMemory>
+    pub fn new(alloc: Global) -> Result<Nodes, NoMemory>
         ensures { IfOk result (λ n. n.items ≡ []) }
     {
         let mut store = Store::new(alloc);
@@ -43,7 +43,7 @@ impl Nodes {
     }
 
     /// Makes room for one more, if there is none.
-    pub(crate) fn reserve(&mut self) -> Result<(), NoMemory>
+    pub fn reserve(&mut self) -> Result<(), NoMemory>
         ensures room { OnOk result (0 < self.new.room) }
         ensures items { self.new.items ≡ self.old.items }
     {
@@ -52,7 +52,7 @@ impl Nodes {
     }
 
     /// How many signals were made, gone ones too.
-    pub(crate) fn made(&self) -> u128
+    pub fn made(&self) -> u128
         ensures { result ≡ length self.now.items }
     {
         self.store.made()
@@ -60,7 +60,7 @@ impl Nodes {
 
     /// The node of a signal, none where it is gone or wasn't made.
     #[inline(always)]
-    pub(crate) fn at(&self, id: NodeId) -> Option<&Node>
+    pub fn at(&self, id: NodeId) -> Option<&Node>
         ensures some { IfSome result (λ x. slice_get self.now.items id ≡ Some x.now) }
         ensures gone { IfNone result (body_at self.now.items id ≡ body.Gone) }
         ensures seat { IfNone result (seat_at self.now.items id ≡ 0) }
@@ -79,7 +79,7 @@ impl Nodes {
     }
 
     /// Puts the node of the next signal in, in room that is there.
-    pub(crate) fn push(&mut self, node: Node)
+    pub fn push(&mut self, node: Node)
         requires room { 0 < self.old.room }
         requires count { length self.old.items + 1 < 2 ^ 128 }
         ensures { self.new.items ≡ self.old.items ++ node ∷ [] }
@@ -88,7 +88,7 @@ impl Nodes {
     }
 
     /// Takes the node of a live signal out.
-    pub(crate) fn take_out(&mut self, id: NodeId)
+    pub fn take_out(&mut self, id: NodeId)
         requires { is_live_body (body_at self.old.items id) ≡ true }
         ensures { self.new.items ≡ changed_at gone_node id self.old.items }
     {

@@ -2,9 +2,8 @@
 ghost use Rattle.std.specs.Prelude.{◌≡◌, ℕ, ◌+◌, ◌<◌, ◌^◌, ◌++◌, ◌∷◌, [], List, length, take, true, false, None, Some, IfOk, IfSome, OnOk, is_some, slice_get};
 ghost use Rattle.std.specs.Option.{option_copied};
 ghost use Rattle.signal_model.specs.Memos.{is_stale_by, sources_in};
-ghost use Rattle.sig_nodes.specs.States.{GoesOn};
+ghost use Rattle.sig_nodes.specs.Computations.{GoesOn, at_generation, recipe_made, renewed};
 ghost use Rattle.sig_nodes.specs.Answers.{expression_of, IsAnswerHere, IsJudgedAnswer};
-ghost use Rattle.sig_nodes.specs.Computations.{at_generation, recipe_made, renewed};
 ghost use Rattle.sig_nodes.specs.Nodes.{body_at, change_at, changed_at, is_cell_body, is_computed_body, known_body, known_node, memo_body, rewired_node, run_node, set_node, slots_body, stands_of, value_body};
 
 use crate::answers::{Asked, Recipe};
@@ -29,7 +28,7 @@ fn set_value(node: &mut Node, value: Value) -> Value
 }
 
 /// Gives a cell another value, and gives back the one before.
-pub(crate) fn set_value_at(nodes: &mut Nodes, id: NodeId, value: Value) -> Value
+pub fn set_value_at(nodes: &mut Nodes, id: NodeId, value: Value) -> Value
     requires live { is_cell_body (body_at nodes.old.items id) ≡ true }
     requires worn { change_at nodes.old.items id + 1 < 2 ^ 128 }
     ensures nodes { nodes.new.items ≡ changed_at (set_node value) id nodes.old.items }
@@ -56,7 +55,7 @@ fn keep_memo(node: &mut Node, memo: Memo)
 }
 
 /// Keeps a run of a computed, which ends its evaluation.
-pub(crate) fn keep_memo_at(nodes: &mut Nodes, id: NodeId, memo: Memo)
+pub fn keep_memo_at(nodes: &mut Nodes, id: NodeId, memo: Memo)
     requires live { is_computed_body (body_at nodes.old.items id) ≡ true }
     requires worn { change_at nodes.old.items id + 1 < 2 ^ 128 }
     ensures { nodes.new.items ≡ changed_at (run_node memo) id nodes.old.items }
@@ -88,7 +87,7 @@ fn renew_memo(
 }
 
 /// Keeps a run of a computed that read what the kept one did, by the numbers now, which ends its evaluation.
-pub(crate) fn renew_memo_at(
+pub fn renew_memo_at(
     nodes: &mut Nodes,
     id: NodeId,
     outcome: &mut Outcome,
@@ -117,7 +116,7 @@ fn rewire(node: &mut Node, recipe: Recipe, slots: Vec<NodeId>)
 }
 
 /// Gives a computed another recipe.
-pub(crate) fn rewire_at(nodes: &mut Nodes, id: NodeId, recipe: Recipe, slots: Vec<NodeId>)
+pub fn rewire_at(nodes: &mut Nodes, id: NodeId, recipe: Recipe, slots: Vec<NodeId>)
     requires live { is_computed_body (body_at nodes.old.items id) ≡ true }
     requires worn { change_at nodes.old.items id + 1 < 2 ^ 128 }
     ensures { nodes.new.items ≡ changed_at (rewired_node (recipe_made (expression_of recipe) slots.items)) id nodes.old.items }
@@ -141,7 +140,7 @@ fn begin(node: &mut Node, generation: u128) -> bool
 }
 
 /// Begins the evaluation of a computed, and tells whether it has to run whatever its sources are.
-pub(crate) fn begin_at(nodes: &mut Nodes, generation: u128, id: NodeId) -> bool
+pub fn begin_at(nodes: &mut Nodes, generation: u128, id: NodeId) -> bool
     requires { is_computed_body (body_at nodes.old.items id) ≡ true }
     ensures nodes { nodes.new.items ≡ changed_at (known_node (Some [])) id nodes.old.items }
     ensures stale { result ≡ is_stale_by (at_generation generation) (memo_body (body_at nodes.old.items id)) }
@@ -161,7 +160,7 @@ fn end(node: &mut Node)
 }
 
 /// Ends the evaluation of a computed.
-pub(crate) fn end_at(nodes: &mut Nodes, id: NodeId)
+pub fn end_at(nodes: &mut Nodes, id: NodeId)
     requires { is_computed_body (body_at nodes.old.items id) ≡ true }
     ensures { nodes.new.items ≡ changed_at (known_node None) id nodes.old.items }
 {
@@ -191,7 +190,7 @@ fn ask(
 }
 
 /// Asks a computed's recipe with the values known so far, of which the earlier ones are noted already, and notes the others.
-pub(crate) fn ask_at(
+pub fn ask_at(
     alloc: Global,
     nodes: &mut Nodes,
     id: NodeId,

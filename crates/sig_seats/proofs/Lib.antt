@@ -1,2 +1,5 @@
 mod Flagged
+mod Occupancy
+mod Trails
+mod FoundSeats
 pub mod Shared

@@ -2,3 +2,5 @@
 
 -- a list with one more at its end
 pub use Rattle.sig_seats.proofs.Flagged.{in_more}
+-- seats that are taken and left, and what is found of one
+pub use Rattle.sig_seats.proofs.Occupancy.{held_inside, set_size, holder_set}

@@ -1,6 +1,12 @@
-//! Lists of seats, each seat with a flag, in tables that are made once: what a search has reached.
+//! Seats, in tables that are made once: who has each, what a search has reached and found, and the way that it went.
 #![tactic(auto)]
 
+mod finds;
 mod reached;
+mod seats;
+mod trail;
 
+pub use finds::Finds;
 pub use reached::{Reached, push_in};
+pub use seats::Seats;
+pub use trail::Trail;

@@ -4,7 +4,7 @@ use Rattle.std.specs.Map.{keys_of}
 use Rattle.sig_base.specs.declared.value.Value.{Value}
 use Rattle.signal_model.specs.Signals.{Signals, Stands, IsCell, is_in, standing}
 use Rattle.effect_model.specs.Batches.{Batch, joined, is_other}
-use Rattle.sig_nodes.specs.States.{State, with_set}
+use Rattle.sig_graph.specs.States.{State, with_set}
 use Rattle.sig_state.specs.Equality.{IsRuled}
 
 -- the cells that were changed, each with its value as the batch began, and for how many cells more there is room

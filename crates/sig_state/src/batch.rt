@@ -5,7 +5,7 @@ ghost use Rattle.sig_base.specs.declared.value.Value.{Value};
 ghost use Rattle.signal_model.specs.Changes.{live_count};
 ghost use Rattle.signal_model.specs.Signals.{is_computed, is_in, is_there, standing};
 ghost use Rattle.effect_model.specs.Batches.{is_unlike, net_of};
-ghost use Rattle.sig_nodes.specs.States.{with_set, Becomes};
+ghost use Rattle.sig_graph.specs.States.{with_set, Becomes};
 ghost use Rattle.sig_state.specs.Batches.{all_given_back, given_back, with_joined, with_joining, with_return, with_returns, AreRuled, HasRoom};
 ghost use Rattle.sig_state.specs.Equality.{is_alike_here, IsRuled};
 ghost use Rattle.sig_state.specs.declared.sets.SetDone.TheVariants as done;
@@ -14,8 +14,8 @@ use crate::errors::Gone;
 use crate::sets::{SetDone, are_alike, exchange};
 use indexmap::IndexMap;
 use sig_base::{NoMemory, NodeId, Value};
+use sig_graph::Graph;
 use sig_host::EqualsRule;
-use sig_nodes::Graph;
 use std::alloc::Global;
 use std::marker::Model;
 

@@ -3,14 +3,14 @@ ghost use Rattle.std.specs.Prelude.{◌≡◌, ◌<◌, ◌^◌, ◌↔◌, ℕ,
 ghost use Rattle.signal_model.specs.Signals.{is_computed, is_there, standing};
 ghost use Rattle.effect_model.specs.Acts.{are_alike};
 ghost use Rattle.sig_nodes.specs.Answers.{value_here};
-ghost use Rattle.sig_nodes.specs.States.{with_set, Becomes};
+ghost use Rattle.sig_graph.specs.States.{with_set, Becomes};
 ghost use Rattle.sig_state.specs.Equality.{is_alike_here, IsRuled};
 ghost use Rattle.sig_state.specs.declared.sets.SetDone.TheVariants as done;
 
 use crate::errors::Gone;
 use sig_base::{NodeId, Value};
+use sig_graph::Graph;
 use sig_host::EqualsRule;
-use sig_nodes::Graph;
 
 /// What a set did.
 #[derive(Clone, Copy)]

@@ -11,9 +11,9 @@ use Rattle.signal_model.specs.Kept.{OnlyComputedsKeep}
 use Rattle.signal_model.specs.Laws.{Searches}
 use Rattle.signal_model.proofs.Shared.{below_law, either, or_left, or_right, tested}
 use Rattle.signal_laws.proofs.Shared.{in_append, or_none}
-use Rattle.sig_nodes.specs.Search.{of_holder}
-use Rattle.sig_nodes.specs.Seats.{holder}
-use Rattle.sig_nodes.specs.States.{Seen}
+use Rattle.sig_graph.specs.Search.{of_holder}
+use Rattle.sig_seats.specs.Seats.{holder}
+use Rattle.sig_graph.specs.States.{Seen}
 use Rattle.effect_model.specs.Acts.{is_reached_by_any, some_name}
 use Rattle.sig_watcher.specs.Reach.{Adds, AreReaching, HasSeat, IsFound, IsUnfound, NoneFound, SomeFound}
 

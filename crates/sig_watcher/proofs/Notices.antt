@@ -6,7 +6,7 @@ use Rattle.signal_model.specs.Signals.{Signals}
 use Rattle.signal_model.specs.Memos.{Memos}
 use Rattle.signal_model.specs.Kept.{OnlyComputedsKeep}
 use Rattle.signal_laws.proofs.Shared.{or_fst, or_snd}
-use Rattle.sig_nodes.specs.States.{Seen}
+use Rattle.sig_graph.specs.States.{Seen}
 use Rattle.effect_model.specs.Worlds.{Watcher, watcher_numbers}
 use Rattle.effect_model.specs.Acts.{frozen_by, is_notified_by_any, is_reached_by_any, notified_by_any, some_name, waiting_if}
 use Rattle.sig_watcher.specs.declared.recipients.Told.{Told}

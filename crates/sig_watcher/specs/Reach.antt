@@ -3,8 +3,8 @@ use Rattle.std.specs.Prelude.{◌≡◌, ℕ, ◌⊎◌, Bool, true, false, List
 use Rattle.signal_model.specs.Signals.{is_in, is_there, standing}
 use Rattle.signal_model.specs.Memos.{keeps}
 use Rattle.signal_model.specs.Marks.{HasBelow}
-use Rattle.sig_nodes.specs.Seats.{holder}
-use Rattle.sig_nodes.specs.States.{Seen}
+use Rattle.sig_seats.specs.Seats.{holder}
+use Rattle.sig_graph.specs.States.{Seen}
 
 -- a live signal's seat is one of these
 pub record HasSeat (g : Seen) (seats : List ℕ) (m : ℕ) : Type 0 where

@@ -4,13 +4,13 @@ ghost use Rattle.std.specs.Prelude.{◌≡◌, ℕ, ◌==◌, true, false, Some}
 ghost use Rattle.signal_model.specs.Signals.{is_in, is_there, standing};
 ghost use Rattle.signal_model.specs.Memos.{keeps};
 ghost use Rattle.effect_model.specs.Acts.{some_name};
-ghost use Rattle.sig_nodes.specs.Search.{of_holder};
-ghost use Rattle.sig_nodes.specs.Seats.{holder};
+ghost use Rattle.sig_graph.specs.Search.{of_holder};
+ghost use Rattle.sig_seats.specs.Seats.{holder};
 ghost use Rattle.sig_watcher.specs.Reach.{Adds, AreReaching, HasSeat, IsFound, IsUnfound, NoneFound, SomeFound};
 
 use crate::watcher::is_among;
 use sig_base::{MOST_NODES, NodeId};
-use sig_nodes::{Graph, Standing};
+use sig_graph::{Graph, Standing};
 use sig_seats::Reached;
 
 fn is_live(graph: &Graph, name: NodeId) -> bool

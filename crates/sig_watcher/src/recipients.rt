@@ -12,7 +12,7 @@ ghost use Rattle.sig_watcher.specs.Notices.{passes_at, told_at, told_entry, wait
 use crate::reach::{is_some_found, reach};
 use crate::watcher::Watcher;
 use sig_base::{NoMemory, NodeId, WatcherId};
-use sig_nodes::{Graph, Mark, Standing};
+use sig_graph::{Graph, Mark, Standing};
 use sig_seats::Reached;
 use std::alloc::Global;
 

@@ -14,7 +14,7 @@ use crate::recipients::{Told, is_some_watching, pending_of, tell_all};
 use crate::watcher::{Watcher, is_among};
 use effect_model::MOST_WATCHERS;
 use sig_base::{NoMemory, NodeId, WatcherId};
-use sig_nodes::Graph;
+use sig_graph::Graph;
 use sig_seats::Reached;
 use std::alloc::Global;
 use std::marker::Model;

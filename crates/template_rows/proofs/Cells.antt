@@ -3,8 +3,8 @@ use Rattle.std.proofs.Common.{◌≡◌, List, map, sym, ap, ◌∙◌, arith}
 use Rattle.signal_model.specs.Signals.{Cell}
 use Rattle.sig_host.specs.Hosts.{HostPlace, most_asked, unasked_place}
 use Rattle.sig_host.proofs.Shared.{most_asked-new}
-use Rattle.sig_nodes.specs.Answers.{uses_host}
-use Rattle.sig_nodes.specs.States.{State, Seen, is_computing, no_state, with_new_cell}
+use Rattle.sig_graph.specs.HostUse.{uses_host}
+use Rattle.sig_graph.specs.States.{State, Seen, is_computing, no_state, with_new_cell}
 use Rattle.sig_computed.specs.declared.notes.RunNote.{RunNote}
 use Rattle.tpl_hearing.specs.Heard.{scene, CanSettle}
 

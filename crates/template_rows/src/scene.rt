@@ -5,8 +5,8 @@ ghost use Rattle.tpl_hearing.specs.Heard.{scene, CanSettle};
 use sig_base::{NoMemory, NodeId, Outcome, Value};
 use sig_computed::RunNote;
 use sig_formula::{BinOp, Formula};
+use sig_graph::Graph;
 use sig_host::{Lent, Shelf};
-use sig_nodes::Graph;
 use std::alloc::Global;
 use std::test::Fail;
 

@@ -9,8 +9,8 @@ use crate::comparisons::{Rehearing, hear_compared};
 use crate::outcomes::{Outcomes, settle_again};
 use sig_base::{NoMemory, NodeId};
 use sig_computed::RunNote;
+use sig_graph::Graph;
 use sig_host::{Lent, Shelf};
-use sig_nodes::Graph;
 use std::alloc::Global;
 
 // Whether this is the name.

@@ -8,8 +8,8 @@ ghost use Rattle.tpl_hearing.specs.HeardAgain.{AllCompared, AreCompared, AreSame
 use crate::outcomes::{Outcomes, settle_compared};
 use sig_base::{NoMemory, NodeId, Outcome};
 use sig_computed::RunNote;
+use sig_graph::Graph;
 use sig_host::{Lent, Shelf};
-use sig_nodes::Graph;
 use std::alloc::Global;
 use std::marker::Model;
 

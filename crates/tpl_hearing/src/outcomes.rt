@@ -11,8 +11,8 @@ use crate::still::stands_as;
 use indexmap::IndexMap;
 use sig_base::{NoMemory, NodeId, Outcome, Value};
 use sig_computed::{RunNote, settle};
+use sig_graph::Graph;
 use sig_host::{Lent, Shelf};
-use sig_nodes::Graph;
 use std::alloc::Global;
 use std::marker::Model;
 

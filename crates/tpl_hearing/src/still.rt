@@ -7,7 +7,7 @@ ghost use Rattle.signal_model.specs.Sound.{kept_outcome};
 ghost use Rattle.tpl_hearing.specs.HeardAgain.{StandsAs};
 
 use sig_base::{NodeId, Outcome, Value};
-use sig_nodes::{Graph, Mark, Standing};
+use sig_graph::{Graph, Mark, Standing};
 
 // Whether two values are one: numbers are compared where they stand.
 #[inline(always)]

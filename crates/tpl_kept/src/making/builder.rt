@@ -17,8 +17,8 @@ use crate::making::head::{
 use sig_base::{NoMemory, NodeId};
 use sig_computed::RunNote;
 use sig_formula::RowRef;
+use sig_graph::Graph;
 use sig_host::{Lent, Shelf};
-use sig_nodes::Graph;
 use std::alloc::Global;
 use std::slice;
 use tpl_blocks::Block;

@@ -3,7 +3,7 @@ use Rattle.std.proofs.lemmas.List.Elements.{All-from_recursion}
 use Rattle.effect_model.specs.Acts.{rewire_signal}
 use Rattle.sig_nodes.specs.Answers.{expression_of}
 use Rattle.sig_nodes.specs.Computations.{recipe_made}
-use Rattle.sig_nodes.specs.States.{is_given}
+use Rattle.sig_graph.specs.States.{is_given}
 use Rattle.effect_world.specs.Wholes.{whole_of}
 use Rattle.effect_acts.proofs.Acts.{acted_still}
 use Rattle.effect_acts.proofs.Refusals.{cell_kept, given_slots, none_refused, slots_open}

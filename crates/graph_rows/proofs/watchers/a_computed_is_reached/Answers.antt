@@ -1,5 +1,5 @@
-use Rattle.sig_nodes.specs.States.{is_given}
-use Rattle.sig_nodes.proofs.Shared.{given_made, given_more}
+use Rattle.sig_graph.specs.States.{is_given}
+use Rattle.sig_graph.proofs.Shared.{given_made, given_more}
 use Rattle.graph_rows.proofs.Ones.{one_passes}
 use Rattle.graph_rows.proofs.watchers.a_computed_is_reached.Goals as goal
 

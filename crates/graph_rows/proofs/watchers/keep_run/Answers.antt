@@ -1,5 +1,5 @@
 use Rattle.std.proofs.Common.{◌∙◌}
-use Rattle.sig_nodes.proofs.Shared.{given_same}
+use Rattle.sig_graph.proofs.Shared.{given_same}
 use Rattle.graph_rows.proofs.watchers.keep_run.Goals as goal
 
 pub keep_run-requires-clause-given : goal.keep_run-requires-clause-given

@@ -1,5 +1,5 @@
 use Rattle.std.proofs.Common.{◌∙◌, ap, sym, subst}
-use Rattle.sig_nodes.specs.States.{is_given, CanWear, Seen}
+use Rattle.sig_graph.specs.States.{is_given, CanWear, Seen}
 use Rattle.graph_rows.proofs.Ones.{one_passes}
 use Rattle.graph_rows.proofs.watchers.reaches.Goals as goal
 

@@ -7,8 +7,8 @@ use Rattle.signal_model.specs.Kept.{AreKept}
 use Rattle.signal_model.specs.Settling.{settled}
 use Rattle.signal_model.specs.Recipes.{Hosts}
 use Rattle.sig_host.specs.Hosts.{HostPlace}
-use Rattle.sig_nodes.specs.States as states
-use Rattle.sig_nodes.specs.States.{is_computing}
+use Rattle.sig_graph.specs.States as states
+use Rattle.sig_graph.specs.States.{is_computing}
 use Rattle.sig_computed.specs.Steps.{Frame, frame_names}
 use Rattle.sig_computed.specs.Notes.{Note, note_of, IsNoteGiven}
 use Rattle.sig_computed.specs.Scenes.{Scene, Settles}

@@ -1,6 +1,6 @@
 use Rattle.std.proofs.Common.{◌≡◌, ℕ, List, [], ◌∷◌, ◌++◌, map, true, sym, ap, ◌∙◌, subst}
 use Rattle.std.specs.List.{All}
-use Rattle.sig_nodes.specs.States.{is_given}
+use Rattle.sig_graph.specs.States.{is_given}
 use Rattle.sig_computed.specs.Notes.{Note, note_of}
 use Rattle.sig_computed.proofs.Stacks.{names_given}
 use Rattle.sig_computed.proofs.settler.keep_ended.Goals as goal

@@ -1,5 +1,5 @@
 use Rattle.std.proofs.Common.{◌≡◌, refl, ap, ◌∙◌, arith}
-use Rattle.sig_nodes.specs.States.{State}
+use Rattle.sig_graph.specs.States.{State}
 use Rattle.sig_computed.proofs.Runs.{kept_run}
 use Rattle.sig_computed.proofs.settler.keep_in.Goals as goal
 

@@ -5,7 +5,7 @@ use Rattle.signal_model.specs.Values.{value_of}
 use Rattle.signal_model.specs.Sound.{standing_outcome}
 use Rattle.signal_model.specs.Settling.{settled}
 use Rattle.sig_host.specs.Hosts.{HostPlace}
-use Rattle.sig_nodes.specs.States.{is_computing}
+use Rattle.sig_graph.specs.States.{is_computing}
 use Rattle.sig_computed.specs.Notes.{note_of}
 use Rattle.sig_computed.specs.Skips.{passed_over}
 use Rattle.sig_computed.specs.Views.{evaluating}

@@ -1,6 +1,6 @@
 use Rattle.std.proofs.Common.{cond, refl, sym, ap, ◌∙◌, subst}
 use Rattle.signal_model.specs.Signals.{standing, is_in}
-use Rattle.sig_nodes.specs.States.{is_computing}
+use Rattle.sig_graph.specs.States.{is_computing}
 use Rattle.sig_computed.specs.Skips.{look_steps, passed_over}
 use Rattle.sig_computed.specs.Views.{evaluating, Stays}
 use Rattle.sig_computed.proofs.Leaves.{kind_computed, ready_computed, ready_other, ready_visited}

@@ -2,7 +2,7 @@ use Rattle.std.proofs.Common.{◌≡◌, subst}
 use Rattle.std.specs.Prelude.{IfOk}
 use Rattle.signal_model.specs.Signals.{standing, is_in}
 use Rattle.signal_model.specs.Memos.{memo_of}
-use Rattle.sig_nodes.specs.States.{is_computing}
+use Rattle.sig_graph.specs.States.{is_computing}
 use Rattle.sig_computed.specs.Views.{evaluating}
 use Rattle.sig_computed.proofs.Leaves.{shown_read}
 use Rattle.sig_computed.proofs.Progresses.{in_evaluating}

@@ -6,7 +6,7 @@ use Rattle.sig_base.specs.declared.value.Step.TheVariants.{Read}
 use Rattle.sig_formula.specs.Evaluation.{step_by}
 use Rattle.signal_model.specs.Signals.{standing}
 use Rattle.sig_nodes.specs.declared.answers.Asked.{Asked}
-use Rattle.sig_nodes.specs.States.{State}
+use Rattle.sig_graph.specs.States.{State}
 use Rattle.sig_nodes.specs.Answers.{host_here, slots_here, IsAnswerHere, IsJudgedAnswer}
 use Rattle.sig_computed.specs.Steps.{answered}
 use Rattle.sig_computed.proofs.Leaves.{asks_host, end_answer, ended_judged, ended_move, slot_answer, unasked}

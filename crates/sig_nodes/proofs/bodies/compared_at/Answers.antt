@@ -3,7 +3,7 @@ use Rattle.std.specs.Prelude.{IfNone, IfSome, slice_get}
 use Rattle.signal_model.specs.Memos.{memo_is_cycle, sources_in}
 use Rattle.sig_nodes.specs.declared.node.Body.{Body}
 use Rattle.sig_nodes.specs.Nodes.{has_moved_body, memo_body}
-use Rattle.sig_nodes.proofs.Lookups.{keeps_nothing}
+use Rattle.sig_nodes.proofs.Lives.{keeps_nothing}
 use Rattle.sig_nodes.proofs.bodies.compared_at.Goals as goal
 
 pub returns-in-Some-clause-calm : goal.returns-in-Some-clause-calm

@@ -1,10 +1,10 @@
 use Rattle.std.proofs.Common.{length, sym, ap, ◌∙◌, subst}
-use Rattle.sig_nodes.specs.States.{GoesOn}
+use Rattle.sig_nodes.specs.Computations.{GoesOn}
 use Rattle.sig_nodes.specs.declared.node.Body.{Body}
 use Rattle.sig_nodes.specs.Answers.{IsAnswerHere, IsJudgedAnswer}
 use Rattle.sig_nodes.specs.Nodes.{body_at, changed_at, known_body, known_node, slots_body, stands_of}
 use Rattle.sig_nodes.proofs.Edits.{body_got, body_written, written}
-use Rattle.sig_nodes.proofs.Lookups.{asked_live}
+use Rattle.sig_nodes.proofs.Lives.{asked_live}
 use Rattle.sig_nodes.proofs.store.ask_at.Goals as goal
 
 pub node_mut-requires : goal.node_mut-requires

@@ -4,7 +4,7 @@ use Rattle.sig_nodes.specs.declared.node.Body.{Body}
 use Rattle.sig_nodes.specs.Computations.{at_generation}
 use Rattle.sig_nodes.specs.Nodes.{body_at, is_computed_body, known_node, memo_body}
 use Rattle.sig_nodes.proofs.Edits.{body_got, written}
-use Rattle.sig_nodes.proofs.Consistency.{computed_live}
+use Rattle.sig_nodes.proofs.Lives.{computed_live}
 use Rattle.sig_nodes.proofs.store.begin_at.Goals as goal
 
 pub node_mut-requires : goal.node_mut-requires

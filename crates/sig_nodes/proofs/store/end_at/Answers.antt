@@ -1,7 +1,7 @@
 use Rattle.std.proofs.Common.{None, ap, ◌∙◌, sym}
 use Rattle.sig_nodes.specs.Nodes.{body_at, is_computed_body, known_node}
 use Rattle.sig_nodes.proofs.Edits.{body_got, written}
-use Rattle.sig_nodes.proofs.Consistency.{computed_live}
+use Rattle.sig_nodes.proofs.Lives.{computed_live}
 use Rattle.sig_nodes.proofs.store.end_at.Goals as goal
 
 pub node_mut-requires : goal.node_mut-requires

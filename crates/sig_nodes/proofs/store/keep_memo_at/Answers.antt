@@ -1,7 +1,7 @@
 use Rattle.std.proofs.Common.{ap, ◌∙◌, arith, sym}
 use Rattle.sig_nodes.specs.Nodes.{body_at, is_computed_body, run_node}
 use Rattle.sig_nodes.proofs.Edits.{body_got, change_got, written}
-use Rattle.sig_nodes.proofs.Consistency.{computed_live}
+use Rattle.sig_nodes.proofs.Lives.{computed_live}
 use Rattle.sig_nodes.proofs.store.keep_memo_at.Goals as goal
 
 pub node_mut-requires : goal.node_mut-requires

@@ -4,7 +4,7 @@ use Rattle.sig_nodes.specs.declared.node.Body.{Body}
 use Rattle.sig_nodes.specs.Computations.{renewed}
 use Rattle.sig_nodes.specs.Nodes.{body_at, memo_body, run_node}
 use Rattle.sig_nodes.proofs.Edits.{body_got, change_got, written}
-use Rattle.sig_nodes.proofs.Lookups.{kept_live}
+use Rattle.sig_nodes.proofs.Lives.{kept_live}
 use Rattle.sig_nodes.proofs.store.renew_memo_at.Goals as goal
 
 pub node_mut-requires : goal.node_mut-requires

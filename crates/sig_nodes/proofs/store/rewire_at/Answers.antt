@@ -3,7 +3,7 @@ use Rattle.sig_nodes.specs.Nodes.{body_at, is_computed_body, rewired_node}
 use Rattle.sig_nodes.specs.Answers.{expression_of}
 use Rattle.sig_nodes.specs.Computations.{recipe_made}
 use Rattle.sig_nodes.proofs.Edits.{body_got, change_got, written}
-use Rattle.sig_nodes.proofs.Consistency.{computed_live}
+use Rattle.sig_nodes.proofs.Lives.{computed_live}
 use Rattle.sig_nodes.proofs.store.rewire_at.Goals as goal
 
 pub node_mut-requires : goal.node_mut-requires

@@ -1,7 +1,7 @@
 use Rattle.std.proofs.Common.{sym, ap, ◌∙◌, arith}
 use Rattle.sig_nodes.specs.Nodes.{body_at, is_cell_body, set_node, value_body}
 use Rattle.sig_nodes.proofs.Edits.{body_got, change_got, written}
-use Rattle.sig_nodes.proofs.Consistency.{cell_live}
+use Rattle.sig_nodes.proofs.Lives.{cell_live}
 use Rattle.sig_nodes.proofs.store.set_value_at.Goals as goal
 
 pub node_mut-requires : goal.node_mut-requires

@@ -1,7 +1,7 @@
 use Rattle.std.proofs.Common.{ℕ, Bool, sym, ap, ◌∙◌, subst, inl, inr, arith}
 use Rattle.signal_model.specs.Signals.{is_in, standing}
 use Rattle.signal_model.specs.Memos.{keeps}
-use Rattle.sig_nodes.specs.States.{dependants_at}
+use Rattle.sig_graph.specs.States.{dependants_at}
 use Rattle.std.proofs.lemmas.Option.{slice_get_within}
 use Rattle.sig_watcher.specs.Reach.{HasSeat}
 use Rattle.sig_watcher.proofs.Closure.{adds_as, adds_more, adds_none, adds_then, all_taken, among_at, among_more, computed_there}

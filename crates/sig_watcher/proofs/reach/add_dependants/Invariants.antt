@@ -1,7 +1,7 @@
 use Rattle.std.proofs.Common.{◌≡◌, ◌-◌, ℕ, true, length, take}
 use Rattle.signal_model.specs.Signals.{is_in}
 use Rattle.signal_model.specs.Memos.{keeps}
-use Rattle.sig_nodes.specs.States.{dependants_at}
+use Rattle.sig_graph.specs.States.{dependants_at}
 use Rattle.sig_watcher.specs.Reach.{Adds, HasSeat}
 use Rattle.sig_watcher.proofs.reach.add_dependants.Given as goal
 

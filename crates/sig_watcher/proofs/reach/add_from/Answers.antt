@@ -1,7 +1,7 @@
 use Rattle.std.proofs.Common.{◌≡◌, Some, sym, ap, ◌∙◌}
 use Rattle.signal_model.specs.Memos.{keeps}
-use Rattle.sig_nodes.specs.Search.{of_holder}
-use Rattle.sig_nodes.specs.Seats.{holder}
+use Rattle.sig_graph.specs.Search.{of_holder}
+use Rattle.sig_seats.specs.Seats.{holder}
 use Rattle.sig_watcher.proofs.Closure.{adds_from, adds_none}
 use Rattle.sig_watcher.proofs.reach.add_from.Goals as goal
 

@@ -1,6 +1,6 @@
 use Rattle.std.proofs.Common.{◌≡◌, ℕ, Bool, Some, subst, inl, inr, arith}
 use Rattle.signal_model.specs.Memos.{keeps}
-use Rattle.sig_nodes.specs.Seats.{holder}
+use Rattle.sig_seats.specs.Seats.{holder}
 use Rattle.sig_watcher.proofs.Closure.{adds_more, adds_none, adds_then, below_or, keeper_there}
 use Rattle.sig_watcher.proofs.reach.add_keepers.Goals as goal
 

@@ -1,6 +1,6 @@
 use Rattle.std.proofs.Common.{◌≡◌, ◌<◌, ℕ, true, Some}
 use Rattle.signal_model.specs.Memos.{keeps}
-use Rattle.sig_nodes.specs.Seats.{holder}
+use Rattle.sig_seats.specs.Seats.{holder}
 use Rattle.sig_watcher.specs.Reach.{Adds, HasSeat}
 use Rattle.sig_watcher.proofs.reach.add_keepers.Given as goal
 

@@ -1,5 +1,5 @@
 use Rattle.signal_model.specs.Signals.{standing}
-use Rattle.sig_nodes.specs.States.{is_computing}
+use Rattle.sig_graph.specs.States.{is_computing}
 use Rattle.tpl_hearing.proofs.Unmoved.{computed_kind_is}
 use Rattle.tpl_hearing.proofs.still.is_computed_as.Goals as goal
 

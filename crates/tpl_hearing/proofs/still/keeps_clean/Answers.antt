@@ -1,7 +1,7 @@
 use Rattle.std.proofs.Common.{sym, ap, ◌∙◌}
 use Rattle.signal_model.specs.Memos.{memo_of}
 use Rattle.signal_model.specs.Sound.{kept_outcome}
-use Rattle.sig_nodes.specs.States.{Seen}
+use Rattle.sig_graph.specs.States.{Seen}
 use Rattle.tpl_hearing.proofs.Unmoved.{stands_clean}
 use Rattle.tpl_hearing.proofs.still.keeps_clean.Goals as goal
 

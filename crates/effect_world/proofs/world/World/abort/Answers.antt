@@ -1,5 +1,5 @@
 use Rattle.std.proofs.Common.{refl, ap, arith, map}
-use Rattle.sig_nodes.specs.States.{State}
+use Rattle.sig_graph.specs.States.{State}
 use Rattle.effect_world.specs.declared.world.World.{World}
 use Rattle.sig_effect.proofs.Shared.{abort_agrees, abort_does, abort_named, abort_ruled, abort_told, abort_worn}
 use Rattle.effect_model.specs.Batches.{abort}

@@ -1,7 +1,7 @@
 use Rattle.std.proofs.Common.{◌≡◌, ◌∙◌, ◌++◌, ℕ, List, Ok, map, refl, sym, ap, subst, arith}
 use Rattle.signal_model.specs.Signals.{Signals}
 use Rattle.effect_model.specs.Acts.{is_notified, notified_by}
-use Rattle.sig_nodes.specs.States.{State}
+use Rattle.sig_graph.specs.States.{State}
 use Rattle.sig_state.specs.declared.sets.SetDone.{SetDone}
 use Rattle.sig_state.specs.declared.sets.SetDone.TheVariants.{Accepted, Same}
 use Rattle.sig_watcher.specs.declared.recipients.Told.{Told}
@@ -12,7 +12,7 @@ use Rattle.effect_world.specs.declared.world.World.{World}
 use Rattle.sig_effect.specs.Stores.{AreRuled}
 use Rattle.sig_effect.specs.Results.{AreNotices}
 use Rattle.effect_model.specs.declared.how.How.TheVariants.{Set}
-use Rattle.sig_nodes.proofs.Shared.{given_same}
+use Rattle.sig_graph.proofs.Shared.{given_same}
 use Rattle.signal_model.specs.Signals.{standing}
 use Rattle.sig_effect.proofs.Shared.{not_accepted, same_does, set_accepted, set_agrees, set_there}
 use Rattle.sig_effect.proofs.Shared.{named_changed, named_still, notices_named}

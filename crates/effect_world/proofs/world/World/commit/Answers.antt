@@ -3,7 +3,7 @@ use Rattle.effect_model.specs.Acts.{is_notified_by_any}
 use Rattle.sig_watcher.specs.Tables.{Table}
 use Rattle.sig_effect.proofs.Shared.{behind_none, commit_agrees, commit_does}
 use Rattle.effect_model.specs.Batches.{commit}
-use Rattle.sig_nodes.specs.States.{Seen}
+use Rattle.sig_graph.specs.States.{Seen}
 use Rattle.sig_effect.specs.Stores.{environment}
 use Rattle.effect_world.specs.Wholes.{stores_of}
 use Rattle.effect_world.proofs.Batched.{framed_commit}

@@ -4,8 +4,8 @@ use Rattle.effect_model.specs.Acts.{undo}
 use Rattle.effect_model.specs.Owners.{the_signal, ends}
 use Rattle.effect_model.specs.Worlds as plain
 use Rattle.effect_tables.specs.declared.thing.Thing.TheVariants as thing
-use Rattle.sig_nodes.specs.States.{Seen, State}
-use Rattle.sig_nodes.proofs.Shared.{given_same}
+use Rattle.sig_graph.specs.States.{Seen, State}
+use Rattle.sig_graph.proofs.Shared.{given_same}
 use Rattle.sig_watcher.specs.Tables.{Table}
 use Rattle.sig_effect.specs.declared.events.Event.TheVariants as event
 use Rattle.sig_effect.specs.Results.{drop_events}

@@ -1,5 +1,5 @@
 use Rattle.std.proofs.Common.{arith, refl, sym, ap, subst, map}
-use Rattle.sig_nodes.specs.States.{State}
+use Rattle.sig_graph.specs.States.{State}
 use Rattle.signal_model.specs.Signals.{Signals}
 use Rattle.effect_model.specs.Worlds as plain
 use Rattle.sig_effect.specs.Stores.{AreRuled}

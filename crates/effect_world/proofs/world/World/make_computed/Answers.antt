@@ -5,7 +5,7 @@ use Rattle.effect_model.specs.Acts.{host_of}
 use Rattle.effect_model.specs.Worlds as plain
 use Rattle.sig_nodes.specs.Answers.{expression_of}
 use Rattle.sig_nodes.specs.Computations.{recipe_made}
-use Rattle.sig_nodes.specs.States.{State}
+use Rattle.sig_graph.specs.States.{State}
 use Rattle.sig_effect.specs.Stores.{AreRuled}
 use Rattle.sig_effect.specs.Wholes as wholes
 use Rattle.sig_effect.proofs.Shared.{computed_agrees, computed_does, none_there, ruled_computed}

@@ -4,7 +4,7 @@ use Rattle.effect_model.specs.Worlds as plain
 use Rattle.effect_tables.specs.Placed.{numbering, untouched}
 use Rattle.effect_teardown.specs.Trees.{IsFormed}
 use Rattle.sig_effect.specs.Wholes as wholes
-use Rattle.sig_nodes.specs.States.{State}
+use Rattle.sig_graph.specs.States.{State}
 use Rattle.sig_owner.specs.Renames.{renamed}
 use Rattle.sig_owner.specs.Trees.{has_thing}
 use Rattle.sig_effect.specs.Stores.{AreRuled}

@@ -2,14 +2,14 @@ use Rattle.std.proofs.Common.{◌≡◌, ◌∷◌, true, map, is_some, refl, sy
 use Rattle.signal_model.specs.Recipes.{Recipe}
 use Rattle.sig_nodes.specs.Answers.{expression_of}
 use Rattle.sig_nodes.specs.Computations.{recipe_made}
-use Rattle.sig_nodes.specs.States.{State, are_there}
+use Rattle.sig_graph.specs.States.{State, are_there}
 use Rattle.effect_world.specs.declared.world.World.{World}
 use Rattle.sig_effect.proofs.Shared.{computed_here, most_left, rewire_agreed, rewire_done, ruled_recipe, there_by}
 use Rattle.sig_effect.specs.Results.{drop_events}
 use Rattle.sig_effect.specs.Stores.{AreRuled}
 use Rattle.effect_model.specs.declared.how.How.TheVariants.{Rewire}
 use Rattle.signal_model.specs.Signals.{Signals, is_there, standing}
-use Rattle.sig_nodes.proofs.Shared.{given_same}
+use Rattle.sig_graph.proofs.Shared.{given_same}
 use Rattle.effect_laws.proofs.Shared.{both}
 use Rattle.sig_effect.proofs.Shared.{named_changed, named_left, named_still}
 use Rattle.sig_effect.proofs.Shared.{uses_by}

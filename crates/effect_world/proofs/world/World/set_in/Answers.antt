@@ -1,6 +1,6 @@
 use Rattle.std.proofs.Common.{◌≡◌, ◌+◌, ◌∙◌, length, Ok, refl, sym, ap, subst, arith, map}
 use Rattle.signal_model.specs.Signals.{Signals, Stands, standing}
-use Rattle.sig_nodes.specs.States.{State}
+use Rattle.sig_graph.specs.States.{State}
 use Rattle.sig_state.specs.declared.sets.SetDone.{SetDone}
 use Rattle.sig_state.specs.declared.sets.SetDone.TheVariants.{Accepted, Same}
 use Rattle.sig_state.specs.Batches.{Collected, with_joining}
@@ -8,7 +8,7 @@ use Rattle.effect_world.specs.declared.world.World.{World}
 use Rattle.sig_effect.specs.Stores.{AreRuled}
 use Rattle.sig_effect.proofs.Shared.{accepted_over, joining_room, joins_other, joins_same, not_accepted, quiet_does, quiet_nothing, value_agrees}
 use Rattle.effect_model.specs.declared.how.How.TheVariants.{Set}
-use Rattle.sig_nodes.proofs.Shared.{given_same}
+use Rattle.sig_graph.proofs.Shared.{given_same}
 use Rattle.sig_effect.proofs.Shared.{set_there}
 use Rattle.sig_effect.proofs.Shared.{named_changed, named_still}
 use Rattle.sig_effect.proofs.Shared.{ruled_value}

@@ -1,6 +1,6 @@
 use Rattle.std.proofs.Common.{map, refl, sym, ap, subst, arith}
 use Rattle.effect_model.specs.Batches.{commit}
-use Rattle.sig_nodes.specs.States.{Seen}
+use Rattle.sig_graph.specs.States.{Seen}
 use Rattle.sig_effect.proofs.SharedKinds.{all_keep_kinds}
 use Rattle.sig_effect.specs.Stores.{environment, AreRuled}
 use Rattle.live_core.proofs.Batched.{committed_steps, roomy_none, stays_quiet}

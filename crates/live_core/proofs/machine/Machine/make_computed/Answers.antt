@@ -13,7 +13,7 @@ use Rattle.effect_model.specs.Worlds.{at_rest}
 use Rattle.effect_tables.specs.Placed.{is_open}
 use Rattle.sig_nodes.specs.Answers.{expression_of}
 use Rattle.sig_nodes.specs.Computations.{recipe_made}
-use Rattle.sig_nodes.specs.States.{is_given}
+use Rattle.sig_graph.specs.States.{is_given}
 use Rattle.effect_world.specs.Wholes.{whole_of}
 use Rattle.live_cmd.specs.declared.command.Command.TheVariants as command
 use Rattle.live_model.specs.declared.names.Kind.TheVariants as kind

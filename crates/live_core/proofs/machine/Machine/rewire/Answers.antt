@@ -6,7 +6,7 @@ use Rattle.signal_model.specs.Signals.{is_there, standing}
 use Rattle.effect_model.specs.Acts.{rewire_signal}
 use Rattle.sig_nodes.specs.Answers.{expression_of}
 use Rattle.sig_nodes.specs.Computations.{recipe_made}
-use Rattle.sig_nodes.specs.States.{are_there, is_given}
+use Rattle.sig_graph.specs.States.{are_there, is_given}
 use Rattle.effect_laws.proofs.SharedCounts.{all_keep_counts}
 use Rattle.sig_effect.proofs.SharedKinds.{all_keep_kinds}
 use Rattle.live_cmd.specs.declared.command.Command.TheVariants as command

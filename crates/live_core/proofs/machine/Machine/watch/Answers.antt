@@ -2,7 +2,7 @@ use Rattle.std.proofs.Common.{◌≡◌, ◌∙◌, ℕ, List, [], refl, map, tr
 use Rattle.effect_model.specs.Commands.{armed, changed_watcher}
 use Rattle.live_cmd.specs.declared.command.Command.TheVariants as command
 use Rattle.live_model.specs.Names.{number_of}
-use Rattle.sig_nodes.specs.States.{are_there}
+use Rattle.sig_graph.specs.States.{are_there}
 use Rattle.sig_watcher.specs.Tables.{Table}
 use Rattle.live_model.specs.declared.names.Kind.TheVariants as kind
 use Rattle.live_model.specs.declared.names.Need.TheVariants as need

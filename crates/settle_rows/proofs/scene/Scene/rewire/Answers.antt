@@ -3,7 +3,7 @@ use Rattle.std.proofs.Common.{Vec, Global}
 use Rattle.std.specs.List.{All}
 use Rattle.sig_base.specs.declared.ids.NodeId.{NodeId}
 use Rattle.signal_model.specs.Signals.{standing}
-use Rattle.sig_nodes.specs.States.{Seen, is_computing}
+use Rattle.sig_graph.specs.States.{Seen, is_computing}
 use Rattle.settle_rows.proofs.Scenes.{given_here, not_cell, rewired_ready, same_places, same_ready}
 use Rattle.settle_rows.proofs.scene.Scene.rewire.Goals as goal
 

@@ -1,6 +1,5 @@
 use Rattle.std.proofs.Common.{sym, subst}
-use Rattle.sig_nodes.specs.States.{GoesOn}
-use Rattle.sig_nodes.specs.Computations.{Computation}
+use Rattle.sig_nodes.specs.Computations.{GoesOn, Computation}
 use Rattle.sig_nodes.specs.Pauses.{IsHeld}
 use Rattle.sig_nodes.proofs.Sources.{going}
 use Rattle.sig_nodes.proofs.Pauses.{held_more}

@@ -1,0 +1,14 @@
+mod Parts
+mod Consistency
+mod Lookups
+mod Searches
+mod ReachedSeats
+mod Walks
+mod HostUse
+mod ReadOn
+pub mod Shared
+mod Seated
+mod MarkedStates
+mod StateEdits
+mod KeptFinds
+mod KeptMarks

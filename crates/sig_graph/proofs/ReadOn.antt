@@ -1,0 +1,126 @@
+-- Slots that are read in one go: by the nodes, and by what these stand for.
+use Rattle.std.proofs.Common.{◌≡◌, ℕ, ◌+◌, ◌≤◌, ◌^◌, Bool, true, false, cond, List, [], ◌∷◌, ◌++◌, append_assoc, length, map, Some, sym, ap, ◌∙◌, subst, arith, is_some}
+use Rattle.std.specs.Prelude.{nat_lt, slice_index}
+use Rattle.std.specs.List.{All}
+use Rattle.std.proofs.lemmas.List.{append-nil, map-append}
+use Rattle.std.proofs.lemmas.List.Elements.{All-append, All-cons, All-nil}
+use Rattle.std.proofs.lemmas.Option.{get_or_from_slice_get}
+use Rattle.sig_base.specs.declared.value.Known.{Known}
+use Rattle.signal_model.specs.Recipes.{Recipe, IsUnknownSlot, judged}
+use Rattle.signal_model.specs.Signals.{IsComputed, Stands, is_in, standing}
+use Rattle.sig_marks.specs.Tables.{MarkTable}
+use Rattle.sig_nodes.specs.declared.answers.Asked.TheVariants.{Slot as SlotAsked}
+use Rattle.sig_nodes.specs.declared.node.Node.{Node}
+use Rattle.sig_nodes.specs.declared.node.Body.TheVariants.{Computed as ComputedBody}
+use Rattle.sig_nodes.specs.Answers.{slots_here, IsAnswerHere}
+use Rattle.sig_nodes.specs.Computations.{Computation}
+use Rattle.sig_graph.specs.Looks.{is_clean_mark}
+use Rattle.sig_nodes.specs.Nodes.{body_at, stands_of}
+use Rattle.sig_graph.specs.Parts.{signals_of, state_of}
+use Rattle.sig_graph.specs.Places.{KeepsMarks}
+use Rattle.sig_graph.specs.States.{State, counted}
+use Rattle.sig_graph.specs.Reading.{SlotRead, AreReadHere, AreReadNext, HasReadHere, HasReadOn, IsReadHere, IsReadNext, ReadsNext}
+use Rattle.sig_graph.proofs.Consistency.{computed_here}
+use Rattle.sig_graph.proofs.Lookups.{at_place, shown_found}
+use Rattle.sig_graph.proofs.Parts.{progress_found, stands}
+use Rattle.sig_graph.proofs.Searches.{unmarked_clean}
+
+-- what is known of a read, and the signal
+abbrev known_in : SlotRead → Known
+known_in r = r.known
+
+abbrev name_in : SlotRead → ℕ
+name_in r = r.name
+
+-- ---- one slot more
+
+-- a slot that is read after others
+read_behind : (xs : List Node) (marked : List Bool) (c : Recipe) (r : SlotRead) (known : List Known) (more : List SlotRead) →
+    IsReadHere xs marked c (known ++ map known_in more) r → AreReadHere xs marked c known more → AreReadHere xs marked c known (more ++ r ∷ [])
+read_behind xs marked c r known [] here before = (subst (λ (ks : List Known). IsReadHere xs marked c ks r) (append-nil known) here, tt)
+read_behind xs marked c r known (s ∷ ss) here before = (
+  before.0,
+  read_behind xs marked c r (known ++ s.known ∷ []) ss
+      (subst (λ (ks : List Known). IsReadHere xs marked c ks r) (sym (append_assoc known (s.known ∷ []) (map known_in ss))) here) before.1,
+)
+
+-- once one slot more is read
+pub read_more : (xs : List Node) (marked : List Bool) (c : Recipe) (first known known' : List Known) (begun reads reads' : List ℕ) →
+    HasReadHere xs marked c first begun known reads → ReadsNext xs marked c known reads known' reads' → HasReadHere xs marked c first begun known' reads'
+read_more xs marked c first known known' begun reads reads' h n = record {
+  more = h.more ++ n.read ∷ [];
+  knows = n.knows ∙ ap (λ ks. ks ++ n.read.known ∷ []) h.knows ∙ append_assoc first (map known_in h.more) (n.read.known ∷ [])
+      ∙ ap (λ ks. first ++ ks) (sym (map-append known_in h.more (n.read ∷ [])));
+  names = n.names ∙ ap (λ ns. ns ++ n.read.name ∷ []) h.names ∙ append_assoc begun (map name_in h.more) (n.read.name ∷ [])
+      ∙ ap (λ ns. begun ++ ns) (sym (map-append name_in h.more (n.read ∷ [])));
+  here = read_behind xs marked c n.read first h.more (subst (λ (ks : List Known). IsReadHere xs marked c ks n.read) h.knows n.here) h.here;
+}
+
+-- before the first
+pub none_read : (xs : List Node) (marked : List Bool) (c : Recipe) (known : List Known) (reads : List ℕ) → HasReadHere xs marked c known reads known reads
+none_read xs marked c known reads = record { more = []; knows = sym (append-nil known); names = sym (append-nil reads); here = tt }
+
+-- ---- by what the nodes stand for
+
+-- a read
+read_found : (xs : List Node) (g l w id : ℕ) (t : MarkTable) (c : Computation) (known : List Known) (r : SlotRead) → KeepsMarks xs g t →
+    body_at xs id ≡ ComputedBody c → IsReadHere xs t.marked c.recipe known r → IsReadNext (state_of xs g l w) id known r
+read_found xs g l w id t c known r keeps is h =
+    let here : standing (signals_of xs) id ≡ IsComputed (record { name = id; recipe = c.recipe }) = stands xs id ∙ ap (stands_of id) is in
+    let slots : slots_here (standing (signals_of xs) id) ≡ c.recipe.slots = ap slots_here here in
+    record {
+      asked = λ o. subst (λ (st : Stands). IsAnswerHere st known (SlotAsked r.known.slot) o) (sym here) (h.asked o);
+      judged = subst (λ (ns : List ℕ). IsUnknownSlot (length ns) r.known.slot known) (sym slots) h.judged;
+      name = sym (ap (λ (ns : List ℕ). slice_index ns r.known.slot) slots ∙ get_or_from_slice_get c.recipe.slots r.known.slot r.name 0 h.name);
+      ready = λ on.
+          let calm = h.ready.calm (computed_here xs r.name on) in (
+            ap is_some (progress_found xs r.name) ∙ calm.0,
+            ap is_clean_mark (sym (unmarked_clean xs g t r.name keeps (computed_here xs r.name on) calm.1)),
+          );
+      shown = sym (shown_found xs g r.name) ∙ h.ready.shown;
+    }
+
+-- each of them
+reads_found : (xs : List Node) (g l w id : ℕ) (t : MarkTable) (c : Computation) (known : List Known) (rs : List SlotRead) → KeepsMarks xs g t →
+    body_at xs id ≡ ComputedBody c → AreReadHere xs t.marked c.recipe known rs → AreReadNext (state_of xs g l w) id known rs
+reads_found xs g l w id t c known [] keeps is h = tt
+reads_found xs g l w id t c known (r ∷ rs) keeps is h =
+    (read_found xs g l w id t c known r keeps is h.0, reads_found xs g l w id t c (known ++ r.known ∷ []) rs keeps is h.1)
+
+-- all that was read in one go
+pub read_on_found : (xs : List Node) (g l w id : ℕ) (t : MarkTable) (c : Computation) (known known' : List Known) (reads reads' : List ℕ) →
+    KeepsMarks xs g t → body_at xs id ≡ ComputedBody c → HasReadHere xs t.marked c.recipe known reads known' reads' →
+    HasReadOn (state_of xs g l w) id known reads known' reads'
+read_on_found xs g l w id t c known known' reads reads' keeps is h = record {
+  more = h.more;
+  knows = h.knows;
+  names = h.names;
+  next = reads_found xs g l w id t c known h.more keeps is h.here;
+}
+
+-- nothing was read
+pub no_read_on : (s : State) (id : ℕ) (known : List Known) (reads : List ℕ) → HasReadOn s id known reads known reads
+no_read_on s id known reads = record { more = []; knows = sym (append-nil known); names = sym (append-nil reads); next = tt }
+
+-- ---- the names
+
+-- what holds of the signals of all slots holds of those that were read
+pub names_read : (P : ℕ → Type 0) (xs : List Node) (marked : List Bool) (c : Recipe) (known known' : List Known) (reads reads' : List ℕ) →
+    ((m : ℕ) → is_in m c.slots ≡ true → P m) → HasReadHere xs marked c known reads known' reads' → All P reads → All P reads'
+names_read P xs marked c known known' reads reads' each h all =
+    subst (All P) (sym h.names) (All-append P reads (map name_in h.more) all (go known h.more h.here))
+  where
+    go : (ks : List Known) (rs : List SlotRead) → AreReadHere xs marked c ks rs → All P (map name_in rs)
+    go ks [] q = All-nil P
+    go ks (r ∷ rs) q =
+        All-cons P r.name (map name_in rs) (at_place P c.slots r.known.slot (Some r.name) each (sym q.0.name)) (go (ks ++ r.known ∷ []) rs q.1)
+
+-- ---- steps
+
+-- one counted step is at most one more
+pub counted_most : (n : ℕ) → counted n ≤ n + 1
+counted_most n = go (nat_lt (n + 1) (2 ^ 128))
+  where
+    go : (b : Bool) → cond b (n + 1) n ≤ n + 1
+    go true = omega arith
+    go false = omega arith

@@ -1,0 +1,25 @@
+-- What is noted of a seat.
+use Rattle.std.proofs.Common.{◌≡◌, ℕ, zero, suc, ◌<◌, List, [], ◌∷◌, ◌++◌, length, refl, sym, ap, arith, ◌⊎◌, inl, inr}
+use Rattle.std.specs.Prelude.{slice_set, slice_index_or}
+use Rattle.sig_seats.specs.Found.{found_at}
+
+-- what is read there
+pub found_read : (fs : List ℕ) (s f : ℕ) → s < length fs → f ≡ slice_index_or fs s f → found_at fs s ≡ f
+found_read [] s f l is = absurd (omega arith)
+found_read (g ∷ fs) zero f l is = sym is
+found_read (g ∷ fs) (suc s) f l is = let k : s < length fs = omega arith in found_read fs s f k is
+
+-- what is written there changes nothing else
+pub found_written : (fs : List ℕ) (d f s : ℕ) → (found_at (slice_set fs d f) s ≡ found_at fs s) ⊎ ((s ≡ d) × (found_at (slice_set fs d f) s ≡ f))
+found_written [] d f s = inl refl
+found_written (x ∷ fs) zero f zero = inr (refl, refl)
+found_written (x ∷ fs) zero f (suc s) = inl refl
+found_written (x ∷ fs) (suc d) f zero = inl refl
+found_written (x ∷ fs) (suc d) f (suc s) = elim (found_written fs d f s) [ inl e ↦ inl e | inr q ↦ inr (ap suc q.0, q.1) ]
+
+-- nothing is found at one seat more
+pub none_more : (fs : List ℕ) → ((s : ℕ) → found_at fs s ≡ 0) → (s : ℕ) → found_at (fs ++ 0 ∷ []) s ≡ 0
+none_more [] h zero = refl
+none_more [] h (suc s) = refl
+none_more (f ∷ fs) h zero = h zero
+none_more (f ∷ fs) h (suc s) = none_more fs (λ k. h (suc k)) s

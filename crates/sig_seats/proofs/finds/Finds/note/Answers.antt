@@ -1,0 +1,10 @@
+use Rattle.std.proofs.Common.{◌≡◌, ◌⊎◌, ℕ, List, subst}
+use Rattle.std.specs.Prelude.{slice_set}
+use Rattle.sig_seats.specs.Found.{found_at}
+use Rattle.sig_seats.proofs.FoundSeats.{found_written}
+use Rattle.sig_seats.proofs.finds.Finds.note.Goals as goal
+
+pub returns-then-seat-len : goal.returns-then-seat-len
+returns-then-seat-len c = λ s.
+    let us = slice_set c.self.inside.at.items c.args.seat c.args.worn in
+    subst (λ (fs : List ℕ). (found_at us s ≡ found_at fs s) ⊎ ((s ≡ c.args.seat) × (found_at us s ≡ c.args.worn))) c.self.view_is (found_written c.self.inside.at.items c.args.seat c.args.worn s)
