@@ -1,4 +1,4 @@
--- What is told at once of a formula of at most one operation.
+-- What is told at once of a formula of few operations.
 use Rattle.std.specs.Prelude.{◌≡◌, Some, None}
 use Rattle.sig_base.specs.declared.value.Step.{Step}
 use Rattle.sig_base.specs.declared.value.Value.TheVariants as value
