@@ -1,13 +1,13 @@
 -- What edits of places make of what callers see.
-use Rattle.std.proofs.Common.{◌≡◌, ◌≢◌, ◌⊎◌, ℕ, zero, suc, ◌+◌, ◌<◌, ◌≤◌, List, [], ◌∷◌, ◌++◌, length, get_or, set, Option, Some, None, IsSome, is_some, true, refl, sym, ap, ◌∙◌, inl, inr, arith, length-append, false, nat_eq, count_by, cond, Bool}
+use Rattle.std.proofs.Common.{◌≡◌, ◌≢◌, ◌⊎◌, ℕ, zero, suc, ◌+◌, ◌<◌, ◌≤◌, List, [], ◌∷◌, ◌++◌, length, get_or, set, Option, Some, None, IsSome, is_some, true, refl, sym, ap, ◌∙◌, inl, inr, arith, length-append, false, nat_eq, count_by, cond, if◌then◌else◌, Bool}
 use Rattle.std.proofs.lemmas.Bool.{cases_eq}
 use Rattle.std.proofs.lemmas.List.{ext_get_or, get_or-set_same, get_or-set_other, get_or_past, get_or_push, get_or_append_left, length-set}
 use Rattle.std.specs.Option.{option_map}
 use Rattle.sig_store.specs.declared.store.Held.{Held}
-use Rattle.std.proofs.lemmas.Bool.{eqb-true}
+use Rattle.std.proofs.lemmas.Bool.{eqb-true, eq-eqb}
 use Rattle.std.proofs.lemmas.List.Sums.{sum_by-set}
 use Rattle.sig_store.specs.Stored.{entry, seen}
-use Rattle.sig_store.specs.Places.{counted_up, number_there, value_there, entries_by, IsStore}
+use Rattle.sig_store.specs.Places.{counted_up, holds_number, number_there, place_by, value_there, entries_by, IsIndex, IsLeft, IsNoted, IsPlaced, IsStore}
 
 module _ {A : Type 0} where
   pub length-counted_up : (f : ℕ → A) (n : ℕ) → length (counted_up f n) ≡ n
@@ -97,19 +97,6 @@ module _ {T : Type 0} where
   pub number-there : (at : ℕ → Option ℕ) (look : ℕ → Option (Held T)) (made n p : ℕ) (h : Held T) → IsStore at look made → at n ≡ Some p → look p ≡ Some h → h.number ≡ n
   number-there at look made n p h store here found =
       let e : Some h.number ≡ Some n = ap (option_map (λ (x : Held T). x.number)) (sym found) ∙ store.stands n p here in
-      cc
-
-  -- two numbers don't have one place
-  pub apart : (at : ℕ → Option ℕ) (look : ℕ → Option (Held T)) (made n p j : ℕ) → IsStore at look made → at n ≡ Some p → j ≢ n → at j ≡ Some p → ⊥
-  apart at look made n p j store here other there =
-      let e : Some j ≡ Some n = sym (store.stands j p there) ∙ store.stands n p here in
-      let same : j ≡ n = cc in
-      other same
-
-  -- an empty place is no number's
-  pub unused : (at : ℕ → Option ℕ) (look : ℕ → Option (Held T)) (made p j : ℕ) → IsStore at look made → look p ≡ None → at j ≡ Some p → ⊥
-  unused at look made p j store empty there =
-      let e : None ≡ Some j = ap (option_map (λ (x : Held T). x.number)) (sym empty) ∙ store.stands j p there in
       cc
 
 -- An edit of one number's place: other numbers keep theirs, other places what they hold, and no other number has the place.
@@ -206,28 +193,264 @@ count-kept {X} xs p w present =
     omega (arith, counted, one)
 
 module _ {T : Type 0} where
-  -- the place of the number that is edited holds it
-  pub holds : (later : ℕ → Option ℕ) (after : ℕ → Option (Held T)) (n p next : ℕ) (h : Held T) → later n ≡ Some p → after p ≡ Some h → h.number ≡ n → n < next
-      → (q : ℕ) → later n ≡ Some q → (option_map (λ (x : Held T). x.number) (after q) ≡ Some n) × (n < next)
-  holds later after n p next h here found number below q there =
-      let e : Some q ≡ Some p = sym there ∙ here in
-      let same : q ≡ p = cc in
-      (ap (λ k. option_map (λ (x : Held T). x.number) (after k)) same ∙ ap (option_map (λ (x : Held T). x.number)) found ∙ ap Some number, below)
-
-  -- what it holds is that number's
-  pub owns : (later : ℕ → Option ℕ) (after : ℕ → Option (Held T)) (n p : ℕ) (h : Held T) → later n ≡ Some p → after p ≡ Some h → h.number ≡ n
-      → (m : ℕ) → number_there after p ≡ Some m → later m ≡ Some p
-  owns later after n p h here found number m holding =
-      let e : Some m ≡ Some n = sym holding ∙ ap (option_map (λ (x : Held T). x.number)) found ∙ ap Some number in
-      let same : m ≡ n = cc in
-      ap later same ∙ here
-
-  -- an empty place holds nothing
-  pub owns_none : (later : ℕ → Option ℕ) (after : ℕ → Option (Held T)) (p : ℕ) → after p ≡ None → (m : ℕ) → number_there after p ≡ Some m → later m ≡ Some p
-  owns_none later after p empty m holding =
-      let e : None ≡ Some m = ap (option_map (λ (x : Held T). x.number)) (sym empty) ∙ holding in
-      absurd (cc)
+  -- a place that was written holds the number that was written, and no other
+  pub sole : (after : ℕ → Option (Held T)) (n p : ℕ) (h : Held T) → after p ≡ Some h → h.number ≡ n
+      → ((q : ℕ) → Some p ≡ Some q → number_there after q ≡ Some n) × ((m : ℕ) → number_there after p ≡ Some m → (m ≡ n) × (Some p ≡ Some p))
+  sole after n p h found number =
+      let held : number_there after p ≡ Some n = ap (option_map (λ (x : Held T). x.number)) found ∙ ap Some number in
+      (λ q e. let same : q ≡ p = cc in ap (number_there after) same ∙ held, λ m e. let same : Some m ≡ Some n = sym e ∙ held in (cc, refl))
 
   -- the same entries and the same room are the same
   pub alike : (es ds : List (Option T)) (r q : ℕ) → es ≡ ds → r ≡ q → seen es r ≡ seen ds q
   alike es ds r q e f = rw (e, f) refl
+
+-- ---- places by index and by number
+
+module _ {T : Type 0} where
+  -- what is held under a number
+  pub held_number : (o : Option (Held T)) (n : ℕ) → option_map (λ (h : Held T). h.number) o ≡ Some n → holds_number o n ≡ true
+  held_number None n e = absurd (cc)
+  held_number (Some h) n e = let same : h.number ≡ n = cc in eq-eqb h.number n same
+
+  -- and what isn't
+  pub unheld : (o : Option (Held T)) (n : ℕ) → (option_map (λ (h : Held T). h.number) o ≡ Some n → ⊥) → holds_number o n ≡ false
+  unheld None n away = refl
+  unheld (Some h) n away = by (nat_eq h.number n) refl
+    where
+      by : (b : Bool) → nat_eq h.number n ≡ b → b ≡ false
+      by true e = absurd (away (ap Some (eqb-true h.number n e)))
+      by false e = refl
+
+  -- a number whose value stands at itself
+  pub placed_home : (index : ℕ → Option ℕ) (look : ℕ → Option (Held T)) (n : ℕ) → holds_number (look n) n ≡ true → place_by index look n ≡ Some n
+  unfolding place_by
+  placed_home index look n h = ap (λ b. if b then Some n else index n) h
+
+  -- a number whose value doesn't
+  pub placed_away : (index : ℕ → Option ℕ) (look : ℕ → Option (Held T)) (n : ℕ) → holds_number (look n) n ≡ false → place_by index look n ≡ index n
+  unfolding place_by
+  placed_away index look n h = ap (λ b. if b then Some n else index n) h
+
+-- An edit of one place, which held and holds nothing or the value of one number; of other numbers the index has what it had.
+record Puts {T : Type 0} (index later : ℕ → Option ℕ) (look after : ℕ → Option (Held T)) (n p : ℕ) : Type 0 where
+  numbers : (j : ℕ) → j ≢ n → later j ≡ index j
+  places : (q : ℕ) → q ≢ p → after q ≡ look q
+  before : (m : ℕ) → number_there look p ≡ Some m → m ≡ n
+  since : (m : ℕ) → number_there after p ≡ Some m → m ≡ n
+
+-- what it makes of places and of the index, and where the number stands then
+pub record Moves {T : Type 0} (index later : ℕ → Option ℕ) (look after : ℕ → Option (Held T)) (n p : ℕ) (place : Option ℕ) : Type 0 where
+  pub edit : Edits (place_by index look) (place_by later after) look after n p
+  pub placed : place_by later after n ≡ place
+  pub indexed : IsIndex later after
+
+module _ {T : Type 0} (index later : ℕ → Option ℕ) (look after : ℕ → Option (Held T)) (n p : ℕ) where
+  -- other numbers have the places that they had
+  same_place : Puts index later look after n p → (j : ℕ) → j ≢ n → place_by later after j ≡ place_by index look j
+  unfolding place_by
+  same_place puts j other = rw (test, puts.numbers j other) refl
+    where
+      test : holds_number (after j) j ≡ holds_number (look j) j
+      test = elim (cases_eq j p) [
+        | inl same ↦ unheld (after j) j (λ e. other (puts.since j (ap (number_there after) (sym same) ∙ e)))
+            ∙ sym (unheld (look j) j (λ e. other (puts.before j (ap (number_there look) (sym same) ∙ e))))
+        | inr apart ↦ ap (λ o. holds_number o j) (puts.places j apart)
+      ]
+
+  -- all of it, by what the index has of the number
+  moved : (made : ℕ) (place : Option ℕ) → IsPlaced index look made → Puts index later look after n p
+      → ((q : ℕ) → later n ≡ Some q → (number_there after q ≡ Some n) × (q ≢ n)) → place_by later after n ≡ place → Moves index later look after n p place
+  moved made place known puts mine placed = record {
+    edit = record {
+      numbers = same_place puts;
+      places = puts.places;
+      own = λ j other there. other (puts.before j (known.store.stands j p there));
+    };
+    placed = placed;
+    indexed = record {
+      stands = λ m q there. elim (cases_eq m n) [
+        | inl same ↦ (mine q (ap later (sym same) ∙ there)).0 ∙ ap Some (sym same)
+        | inr other ↦
+            let before : index m ≡ Some q = sym (puts.numbers m other) ∙ there in
+            let holding : number_there look q ≡ Some m = known.indexed.stands m q before in
+            ap (option_map (λ (h : Held T). h.number)) (puts.places q (λ same. other (puts.before m (ap (number_there look) (sym same) ∙ holding)))) ∙ holding
+      ];
+      away = λ m q there. elim (cases_eq m n) [
+        | inl same ↦ λ home. (mine q (ap later (sym same) ∙ there)).1 (home ∙ same)
+        | inr other ↦ known.indexed.away m q (sym (puts.numbers m other) ∙ there)
+      ];
+    };
+  }
+
+  -- the next number isn't held, and the index has nothing of it
+  unmade : IsPlaced index look n → (q : ℕ) → number_there look q ≡ Some n → ⊥
+  unmade known q holding = let l = known.store.below n q (known.store.own.place n q holding) in absurd (omega (arith, l))
+
+  -- the value of the next number is put in
+  pub pushed : (h : Held T) → IsPlaced index look n → look p ≡ None → after p ≡ Some h → h.number ≡ n → ((q : ℕ) → q ≢ p → after q ≡ look q) → IsNoted index later n p
+      → Moves index later look after n p (Some p)
+  pushed h known empty found number others noted = moved n (Some p) known puts mine placed
+    where
+      held : number_there after p ≡ Some n
+      held = ap (option_map (λ (x : Held T). x.number)) found ∙ ap Some number
+
+      puts : Puts index later look after n p
+      puts = record {
+        numbers = noted.others;
+        places = others;
+        before = λ m e. let none : None ≡ Some m = ap (option_map (λ (x : Held T). x.number)) (sym empty) ∙ e in absurd (cc);
+        since = λ m e. let same : Some m ≡ Some n = sym e ∙ held in cc;
+      }
+
+      mine : (q : ℕ) → later n ≡ Some q → (number_there after q ≡ Some n) × (q ≢ n)
+      mine q there = elim noted.here [
+        | inl own ↦ absurd (unmade known q (known.indexed.stands n q (sym own.1 ∙ there)))
+        | inr put ↦
+            let e : Some q ≡ Some p = sym there ∙ put.1 in
+            let same : q ≡ p = cc in
+            (ap (number_there after) same ∙ held, λ home. put.0 (sym same ∙ home))
+      ]
+
+      placed : place_by later after n ≡ Some p
+      placed = elim noted.here [
+        | inl own ↦ placed_home later after n (held_number (after n) n (ap (number_there after) (sym own.0) ∙ held)) ∙ ap Some (sym own.0)
+        | inr put ↦
+            placed_away later after n (unheld (after n) n (λ e. unmade known n (ap (option_map (λ (x : Held T). x.number)) (sym (others n (λ same. put.0 (sym same)))) ∙ e)))
+            ∙ put.1
+      ]
+
+  -- the value of a number is taken out
+  pub removed : (made : ℕ) → IsPlaced index look made → place_by index look n ≡ Some p → after p ≡ None → ((q : ℕ) → q ≢ p → after q ≡ look q) → IsLeft index later n p
+      → Moves index later look after n p None
+  removed made known here empty others left = moved made None known puts (λ q there. let e : None ≡ Some q = sym gone ∙ there in absurd (cc)) placed
+    where
+      held : number_there look p ≡ Some n
+      held = known.store.stands n p here
+
+      puts : Puts index later look after n p
+      puts = record {
+        numbers = left.others;
+        places = others;
+        before = λ m e. let same : Some m ≡ Some n = sym e ∙ held in cc;
+        since = λ m e. let none : None ≡ Some m = ap (option_map (λ (x : Held T). x.number)) (sym empty) ∙ e in absurd (cc);
+      }
+
+      -- the index has nothing of a number that stands at itself
+      home : p ≡ n → (o : Option ℕ) → index n ≡ o → o ≡ None
+      home own None e = refl
+      home own (Some q) e =
+          let there : Some q ≡ Some p = sym (known.store.own.place n q (known.indexed.stands n q e)) ∙ here in
+          let same : q ≡ p = cc in
+          absurd (known.indexed.away n q e (same ∙ own))
+
+      gone : later n ≡ None
+      gone = elim left.here [ inl own ↦ own.1 ∙ home own.0 (index n) refl | inr none ↦ none ]
+
+      nowhere : number_there after n ≡ Some n → ⊥
+      nowhere e = elim (cases_eq n p) [
+        | inl same ↦ let none : None ≡ Some n = ap (option_map (λ (x : Held T). x.number)) (sym empty) ∙ ap (number_there after) (sym same) ∙ e in absurd (cc)
+        | inr apart ↦
+            let there : Some n ≡ Some p = sym (known.store.own.place n n (ap (option_map (λ (x : Held T). x.number)) (sym (others n apart)) ∙ e)) ∙ here in
+            let same : n ≡ p = cc in
+            apart same
+      ]
+
+      placed : place_by later after n ≡ None
+      placed = placed_away later after n (unheld (after n) n nowhere) ∙ gone
+
+-- the same test gives the same place
+same_test : {T : Type 0} (index : ℕ → Option ℕ) (look after : ℕ → Option (Held T)) (n : ℕ) → holds_number (after n) n ≡ holds_number (look n) n → place_by index after n ≡ place_by index look n
+unfolding place_by
+same_test index look after n e = ap (λ b. if b then Some n else index n) e
+
+-- another value is put in place of that of a number
+pub written : {T : Type 0} (index : ℕ → Option ℕ) (look after : ℕ → Option (Held T)) (n p made : ℕ) (h : Held T) → IsPlaced index look made → place_by index look n ≡ Some p
+    → after p ≡ Some h → h.number ≡ n → ((q : ℕ) → q ≢ p → after q ≡ look q) → Moves index index look after n p (Some p)
+written {T} index look after n p made h known here found number others = moved index index look after n p made (Some p) known puts mine placed
+  where
+    held : number_there look p ≡ Some n
+    held = known.store.stands n p here
+
+    now : number_there after p ≡ Some n
+    now = ap (option_map (λ (x : Held T). x.number)) found ∙ ap Some number
+
+    puts : Puts index index look after n p
+    puts = record {
+      numbers = λ j other. refl;
+      places = others;
+      before = λ m e. let same : Some m ≡ Some n = sym e ∙ held in cc;
+      since = λ m e. let same : Some m ≡ Some n = sym e ∙ now in cc;
+    }
+
+    mine : (q : ℕ) → index n ≡ Some q → (number_there after q ≡ Some n) × (q ≢ n)
+    mine q there =
+        let e : Some q ≡ Some p = sym (known.store.own.place n q (known.indexed.stands n q there)) ∙ here in
+        let same : q ≡ p = cc in
+        (ap (number_there after) same ∙ now, known.indexed.away n q there)
+
+    test : holds_number (after n) n ≡ holds_number (look n) n
+    test = elim (cases_eq n p) [
+      | inl same ↦ held_number (after n) n (ap (number_there after) same ∙ now) ∙ sym (held_number (look n) n (ap (number_there look) same ∙ held))
+      | inr apart ↦ ap (λ o. holds_number o n) (others n apart)
+    ]
+
+    placed : place_by index after n ≡ Some p
+    placed = same_test index look after n test ∙ here
+
+-- a store after such an edit
+pub stays_placed : {T : Type 0} (index later : ℕ → Option ℕ) (look after : ℕ → Option (Held T)) (n p made next : ℕ) (place : Option ℕ) → IsPlaced index look made
+    → Moves index later look after n p place → made ≤ next → ((q : ℕ) → place ≡ Some q → (number_there after q ≡ Some n) × (n < next))
+    → ((m : ℕ) → number_there after p ≡ Some m → (m ≡ n) × (place ≡ Some p)) → ((q : ℕ) → q ≢ p → place_by index look n ≡ Some q → ⊥) → IsPlaced later after next
+stays_placed index later look after n p made next place known moves more here mine away = record {
+  store = stays_store (place_by index look) (place_by later after) look after n p made next known.store moves.edit more
+      (λ q there. here q (sym moves.placed ∙ there))
+      (λ m holding. let e = mine m holding in ap (place_by later after) e.0 ∙ moves.placed ∙ e.1) away;
+  indexed = moves.indexed;
+}
+
+-- a store without anything
+pub none_placed : {T : Type 0} (index : ℕ → Option ℕ) (look : ℕ → Option (Held T)) → ((n : ℕ) → index n ≡ None) → ((p : ℕ) → look p ≡ None) → IsPlaced index look 0
+none_placed {T} index look unknown empty = record {
+  store = record {
+    stands = λ n p there. absurd (nothing n p there);
+    below = λ n p there. absurd (nothing n p there);
+    own = record { place = λ n p holding. absurd (nowhere n p holding) };
+  };
+  indexed = record { stands = λ n p there. absurd (unplaced n p there); away = λ n p there. absurd (unplaced n p there) };
+}
+  where
+    nowhere : (n p : ℕ) → number_there look p ≡ Some n → ⊥
+    nowhere n p holding = let e : None ≡ Some n = ap (option_map (λ (h : Held T). h.number)) (sym (empty p)) ∙ holding in cc
+
+    unplaced : (n p : ℕ) → index n ≡ Some p → ⊥
+    unplaced n p there = let e : None ≡ Some p = sym (unknown n) ∙ there in cc
+
+    nothing : (n p : ℕ) → place_by index look n ≡ Some p → ⊥
+    nothing n p there = unplaced n p (sym (placed_away index look n (unheld (look n) n (nowhere n n))) ∙ there)
+
+-- the same index and the same values are the same places
+pub same_places : {T : Type 0} (index later : ℕ → Option ℕ) (look after : ℕ → Option (Held T)) → ((j : ℕ) → later j ≡ index j) → ((q : ℕ) → after q ≡ look q) → (n : ℕ)
+    → place_by later after n ≡ place_by index look n
+unfolding place_by
+same_places index later look after numbers places n = let at = numbers n in let there = places n in rw (at, there) refl
+
+-- and the same store
+pub same_placed : {T : Type 0} (index later : ℕ → Option ℕ) (look after : ℕ → Option (Held T)) (made : ℕ) → ((j : ℕ) → later j ≡ index j) → ((q : ℕ) → after q ≡ look q)
+    → IsPlaced index look made → IsPlaced later after made
+same_placed {T} index later look after made numbers places known = record {
+  store = record {
+    stands = λ n p there. held p ∙ known.store.stands n p (sym (at n) ∙ there);
+    below = λ n p there. known.store.below n p (sym (at n) ∙ there);
+    own = record { place = λ n p holding. at n ∙ known.store.own.place n p (sym (held p) ∙ holding) };
+  };
+  indexed = record {
+    stands = λ n p there. held p ∙ known.indexed.stands n p (sym (numbers n) ∙ there);
+    away = λ n p there. known.indexed.away n p (sym (numbers n) ∙ there);
+  };
+}
+  where
+    at : (n : ℕ) → place_by later after n ≡ place_by index look n
+    at = same_places index later look after numbers places
+
+    held : (p : ℕ) → number_there after p ≡ number_there look p
+    held p = ap (option_map (λ (h : Held T). h.number)) (places p)

@@ -1,5 +1,5 @@
 -- How the places of values make what callers see.
-use Rattle.std.specs.Prelude.{◌≡◌, ℕ, zero, suc, ◌-◌, ◌<◌, min, List, [], ◌∷◌, ◌++◌, Option, Some, None}
+use Rattle.std.specs.Prelude.{◌≡◌, ◌≢◌, ◌⊎◌, ℕ, zero, suc, ◌-◌, ◌<◌, min, Bool, false, if◌then◌else◌, nat_eq, List, [], ◌∷◌, ◌++◌, Option, Some, None}
 use Rattle.std.specs.Option.{option_map}
 use Rattle.indexmap.specs.IndexMap.{IndexMap, spare}
 use Rattle.slab.specs.Slab.{Slab, slab_len}
@@ -20,6 +20,20 @@ module _ {T : Type 0} where
   abbrev pub number_there : (ℕ → Option (Held T)) → ℕ → Option ℕ
   number_there look p = option_map (λ (h : Held T). h.number) (look p)
 
+  -- whether this is held under a number
+  abbrev pub holds_number : Option (Held T) → ℕ → Bool
+  holds_number None n = false
+  holds_number (Some h) n = nat_eq h.number n
+
+  -- where the value of a number stands: at the number itself, where its value is there, otherwise where the index says
+  unfoldable pub place_by : (ℕ → Option ℕ) → (ℕ → Option (Held T)) → ℕ → Option ℕ
+  place_by index look n = if holds_number (look n) n then Some n else index n
+
+  -- the index has only places that hold the value of their number, and aren't that number
+  pub record IsIndex (index : ℕ → Option ℕ) (look : ℕ → Option (Held T)) : Type 0 where
+    pub stands : (n p : ℕ) → index n ≡ Some p → number_there look p ≡ Some n
+    pub away : (n p : ℕ) → index n ≡ Some p → p ≢ n
+
   -- what a place holds is of the number that has the place
   pub record AreOwn (at : ℕ → Option ℕ) (look : ℕ → Option (Held T)) : Type 0 where
     pub place : (n p : ℕ) → number_there look p ≡ Some n → at n ≡ Some p
@@ -38,6 +52,21 @@ module _ {T : Type 0} where
     pub below : (n p : ℕ) → at n ≡ Some p → n < made
     pub own : AreOwn at look
 
+  -- What holds of a store's fields: of the places by index and by number, and of the index.
+  pub record IsPlaced (index : ℕ → Option ℕ) (look : ℕ → Option (Held T)) (made : ℕ) : Type 0 where
+    pub store : IsStore (place_by index look) look made
+    pub indexed : IsIndex index look
+
   -- how many more fit without memory
   abbrev pub room_of : {S : Type 0} → IndexMap ℕ ℕ S → Slab T → ℕ
   room_of places held = min (spare places) (held.capacity - slab_len held)
+
+-- an index once the place p of the number n is noted: it has it, unless the place is the number
+pub record IsNoted (old new : ℕ → Option ℕ) (n p : ℕ) : Type 0 where
+  pub others : (j : ℕ) → j ≢ n → new j ≡ old j
+  pub here : ((p ≡ n) × (new n ≡ old n)) ⊎ ((p ≢ n) × (new n ≡ Some p))
+
+-- an index once the number n has left the place p: it has none of it, or is as before where the place was the number
+pub record IsLeft (old new : ℕ → Option ℕ) (n p : ℕ) : Type 0 where
+  pub others : (j : ℕ) → j ≢ n → new j ≡ old j
+  pub here : ((p ≡ n) × (new n ≡ old n)) ⊎ (new n ≡ None)

@@ -1,10 +1,10 @@
 // Values by number.
-ghost use Rattle.std.specs.Prelude.{◌≡◌, ◌+◌, ◌<◌, ◌≤◌, ◌^◌, ◌++◌, ◌∷◌, [], length, IsSome, IfSome, Some, None, OnOk, if◌then◌else◌, is_some, nat_eq, option_copied, slice_set};
+ghost use Rattle.std.specs.Prelude.{◌≡◌, ◌+◌, ◌<◌, ◌≤◌, ◌^◌, ◌++◌, ◌∷◌, [], length, false, IsSome, IfSome, IfNone, IfOk, Some, None, OnOk, if◌then◌else◌, is_some, nat_eq, option_copied, slice_set};
 ghost use Rattle.std.specs.Borrow.{sem};
 ghost use Rattle.indexmap.specs.IndexMap.{get, spare, Updates};
 ghost use Rattle.slab.specs.Slab.{get as held_at};
 ghost use Rattle.sig_store.specs.Stored.{entry};
-ghost use Rattle.sig_store.specs.Places.{number_there, value_there, AreOwn, IsValueOf};
+ghost use Rattle.sig_store.specs.Places.{holds_number, number_there, place_by, value_there, AreOwn, IsLeft, IsNoted, IsValueOf};
 
 use indexmap::IndexMap;
 use sig_base::NoMemory;
@@ -27,8 +27,9 @@ struct Held<T> {
 /// does, so that only the values that stand take memory.
 #[derive(Drop)]
 pub struct Store<T> {
+    // the place of each number that stands elsewhere than at itself, as none does before a value is taken out
     places: IndexMap<u128, usize>,
-    // the place that was given last to a number with each remainder, be its value there still or not
+    // the place that was given last to such a number with each remainder, be its value there still or not
     hints: Vec<usize>,
     held: Slab<Held<T>>,
     made: u128,
@@ -44,11 +45,14 @@ impl<T> Model for Store<T> {
 
     ghost use Rattle.indexmap.specs.IndexMap.{get};
     ghost use Rattle.slab.specs.Slab.{get as held_at};
-    ghost use Rattle.sig_store.specs.Places.{entries_by, room_of, IsStore};
+    ghost use Rattle.sig_store.specs.Places.{entries_by, place_by, room_of, IsPlaced};
 
-    ghost view = { λ s. record { entries = entries_by (get nat_eq s.places) (held_at s.held) s.made; room = room_of s.places s.held } };
+    ghost view = { λ s. record {
+      entries = entries_by (place_by (get nat_eq s.places) (held_at s.held)) (held_at s.held) s.made;
+      room = room_of s.places s.held;
+    } };
 
-    ghost invariant = { λ s. IsStore (get nat_eq s.places) (held_at s.held) s.made };
+    ghost invariant = { λ s. IsPlaced (get nat_eq s.places) (held_at s.held) s.made };
 }
 
 // The hint that is a number's.
@@ -74,6 +78,7 @@ fn note_hint(hints: &mut [usize], number: u128, place: usize) {
 fn checked_value<T>(held: &Slab<Held<T>>, place: usize, number: u128) -> Option<&T>
     ensures number { IfSome result (λ v. number_there (held_at held.now) place ≡ Some number) }
     ensures value { IfSome result (λ v. value_there (held_at held.now) (Some place) ≡ Some v.now) }
+    ensures none { IfNone result (holds_number (held_at held.now place) number ≡ false) }
 {
     let one = held.get(place)?;
     if one.number == number {
@@ -86,7 +91,9 @@ fn checked_value<T>(held: &Slab<Held<T>>, place: usize, number: u128) -> Option<
 // A place, where it holds the value of a number.
 #[inline(always)]
 fn checked_place<T>(held: &Slab<Held<T>>, place: usize, number: u128) -> Option<usize>
-    ensures { IfSome result (λ p. number_there (held_at held.now) p ≡ Some number) }
+    ensures some { IfSome result (λ p. number_there (held_at held.now) p ≡ Some number) }
+    ensures place { IfSome result (λ p. p ≡ place) }
+    ensures none { IfNone result (holds_number (held_at held.now place) number ≡ false) }
 {
     let _value = checked_value(held, place, number)?;
     Some(place)
@@ -95,22 +102,31 @@ fn checked_place<T>(held: &Slab<Held<T>>, place: usize, number: u128) -> Option<
 // The value of a number that is its own place, as each is where nothing was taken out before.
 #[inline(always)]
 fn first_value<T>(held: &Slab<Held<T>>, number: u128) -> Option<&T>
-    ensures { IfSome result (λ v. IsValueOf (held_at held.now) number v.now) }
+    ensures some { IfSome result (λ v. IsValueOf (held_at held.now) number v.now) }
+    ensures none { IfNone result (holds_number (held_at held.now number) number ≡ false) }
 {
     match usize::try_from(number) {
         Ok(place) => checked_value(held, place, number),
-        Err(_) => None,
+        Err(_) => {
+            let _most = held.capacity();
+            None
+        }
     }
 }
 
 // The place of such a number.
 #[inline(always)]
 fn first_place<T>(held: &Slab<Held<T>>, number: u128) -> Option<usize>
-    ensures { IfSome result (λ p. number_there (held_at held.now) p ≡ Some number) }
+    ensures some { IfSome result (λ p. number_there (held_at held.now) p ≡ Some number) }
+    ensures place { IfSome result (λ p. p ≡ number) }
+    ensures none { IfNone result (holds_number (held_at held.now number) number ≡ false) }
 {
     match usize::try_from(number) {
         Ok(place) => checked_place(held, place, number),
-        Err(_) => None,
+        Err(_) => {
+            let _most = held.capacity();
+            None
+        }
     }
 }
 
@@ -171,8 +187,9 @@ fn later_value<'a, T>(
     held: &'a Slab<Held<T>>,
     number: u128,
 ) -> Option<&'a T>
-    requires { AreOwn (get nat_eq places.now) (held_at held.now) }
-    ensures { option_copied result ≡ value_there (held_at held.now) (get nat_eq places.now number) }
+    requires own { AreOwn (place_by (get nat_eq places.now) (held_at held.now)) (held_at held.now) }
+    requires away { holds_number (held_at held.now number) number ≡ false }
+    ensures { option_copied result ≡ value_there (held_at held.now) (place_by (get nat_eq places.now) (held_at held.now) number) }
 {
     match hinted_value(hints, held, number) {
         Some(value) => Some(value),
@@ -188,8 +205,9 @@ fn later_place<T>(
     held: &Slab<Held<T>>,
     number: u128,
 ) -> Option<usize>
-    requires { AreOwn (get nat_eq places.now) (held_at held.now) }
-    ensures { result ≡ get nat_eq places.now number }
+    requires own { AreOwn (place_by (get nat_eq places.now) (held_at held.now)) (held_at held.now) }
+    requires away { holds_number (held_at held.now number) number ≡ false }
+    ensures { result ≡ place_by (get nat_eq places.now) (held_at held.now) number }
 {
     match hinted_place(hints, held, number) {
         Some(place) => Some(place),
@@ -205,8 +223,8 @@ fn place_of<T>(
     held: &Slab<Held<T>>,
     number: u128,
 ) -> Option<usize>
-    requires { AreOwn (get nat_eq places.now) (held_at held.now) }
-    ensures { result ≡ get nat_eq places.now number }
+    requires { AreOwn (place_by (get nat_eq places.now) (held_at held.now)) (held_at held.now) }
+    ensures { result ≡ place_by (get nat_eq places.now) (held_at held.now) number }
 {
     match first_place(held, number) {
         Some(place) => Some(place),
@@ -222,9 +240,9 @@ fn standing_place<T>(
     held: &Slab<Held<T>>,
     number: u128,
 ) -> usize
-    requires own { AreOwn (get nat_eq places.now) (held_at held.now) }
-    requires stands { IsSome (get nat_eq places.now number) }
-    ensures { get nat_eq places.now number ≡ Some result }
+    requires own { AreOwn (place_by (get nat_eq places.now) (held_at held.now)) (held_at held.now) }
+    requires stands { IsSome (place_by (get nat_eq places.now) (held_at held.now) number) }
+    ensures { place_by (get nat_eq places.now) (held_at held.now) number ≡ Some result }
 {
     match place_of(places, hints, held, number) {
         Some(place) => place,
@@ -244,6 +262,19 @@ fn note_place(places: &mut IndexMap<u128, usize>, number: u128, place: usize)
     }
 }
 
+// Notes the place of a number that is put in, unless it is the number itself.
+#[inline(always)]
+fn note(places: &mut IndexMap<u128, usize>, hints: &mut [usize], number: u128, place: usize)
+    requires { 0 < spare places.old }
+    ensures noted { IsNoted (get nat_eq places.old) (get nat_eq places.new) number place }
+    ensures left { spare places.old ≤ spare places.new + 1 }
+{
+    if place as u128 != number {
+        note_place(places, number, place);
+        note_hint(hints, number, place);
+    }
+}
+
 // Forgets the place of a number, and tells it.
 fn forget_place(places: &mut IndexMap<u128, usize>, number: u128) -> usize
     requires { IsSome (get nat_eq places.old number) }
@@ -254,6 +285,20 @@ fn forget_place(places: &mut IndexMap<u128, usize>, number: u128) -> usize
     match places.swap_remove(&number) {
         Some(place) => place,
         None => unreachable!(),
+    }
+}
+
+// Forgets where the value of a number that stands does, and tells it.
+#[inline(always)]
+fn leave_place<T>(places: &mut IndexMap<u128, usize>, held: &Slab<Held<T>>, number: u128) -> usize
+    requires { IsSome (place_by (get nat_eq places.old) (held_at held.now) number) }
+    ensures place { place_by (get nat_eq places.old) (held_at held.now) number ≡ Some result }
+    ensures left { IsLeft (get nat_eq places.old) (get nat_eq places.new) number result }
+    ensures room { spare places.old ≤ spare places.new }
+{
+    match first_place(held, number) {
+        Some(place) => place,
+        None => forget_place(places, number),
     }
 }
 
@@ -272,6 +317,29 @@ impl<T> Store<T> {
         }
     }
 
+    /// The same, with memory for so many values. What their numbers take besides is made by `reserve`.
+    pub fn with_capacity(alloc: Global, count: usize) -> Result<Store<T>, NoMemory>
+        ensures { IfOk result (λ s. s.entries ≡ []) }
+    {
+        let held = Slab::with_capacity(alloc, count)?;
+        Ok(Store {
+            places: IndexMap::new(alloc),
+            hints: Vec::new(alloc),
+            held,
+            made: 0,
+        })
+    }
+
+    // Makes the hints, where the next value doesn't come to the place that is its number.
+    fn ready_hints(&mut self) -> Result<(), NoMemory>
+        ensures { self.new ≡ self.old }
+    {
+        if self.held.vacant_key() as u128 != self.made {
+            fill_hints(&mut self.hints)?;
+        }
+        Ok(())
+    }
+
     /// Makes room for so many values more, which `push` then takes without memory.
     pub fn reserve(&mut self, more: usize) -> Result<(), NoMemory>
         ensures room { OnOk result (more ≤ self.new.room) }
@@ -279,7 +347,7 @@ impl<T> Store<T> {
     {
         self.places.reserve(more)?;
         self.held.reserve(more)?;
-        fill_hints(&mut self.hints)?;
+        self.ready_hints()?;
         Ok(())
     }
 
@@ -323,8 +391,7 @@ impl<T> Store<T> {
     {
         let number = self.made;
         let place = self.held.insert_reserved(Held { number, value });
-        note_place(&mut self.places, number, place);
-        note_hint(&mut self.hints, number, place);
+        note(&mut self.places, &mut self.hints, number, place);
         self.made += 1;
         number
     }
@@ -336,7 +403,7 @@ impl<T> Store<T> {
         ensures entries { self.new.entries ≡ slice_set self.old.entries number None }
         ensures left { self.old.room ≤ self.new.room }
     {
-        let place = forget_place(&mut self.places, number);
+        let place = leave_place(&mut self.places, &self.held, number);
         let Held { number: _, value } = self.held.remove(place);
         value
     }

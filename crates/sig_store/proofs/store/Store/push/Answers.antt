@@ -2,8 +2,9 @@ use Rattle.std.proofs.Common.{sym, ap, ◌∙◌, refl, nat_eq, Some, ◌+◌, �
 use Rattle.indexmap.specs.IndexMap.{get}
 use Rattle.slab.specs.Slab.{get as held_at}
 use Rattle.std.specs.Option.{option_map}
-use Rattle.sig_store.specs.Places.{value_there}
-use Rattle.sig_store.proofs.Edits.{entries-length, unused, differs, Edits, added, stays_store, holds, owns}
+use Rattle.sig_store.specs.declared.store.Held.{Held}
+use Rattle.sig_store.specs.Places.{place_by, value_there}
+use Rattle.sig_store.proofs.Edits.{entries-length, added, pushed, stays_placed, sole, Moves}
 use Rattle.sig_store.proofs.store.Store.push.Goals as goal
 
 pub overflow_add-self : goal.overflow_add-self
@@ -14,37 +15,34 @@ overflow_add-self g c =
 
 pub invariant_of-self : goal.invariant_of-self
 invariant_of-self g c =
-    let at = get nat_eq c.self.inside.places in
+    let index = get nat_eq c.self.inside.places in
     let look = held_at c.self.inside.held in
-    let later = get nat_eq c.note_place.new.places in
+    let later = get nat_eq c.note.new.places in
     let after = held_at c.insert_reserved-place.new.self in
     let n = c.self.inside.made in
     let p = c.insert_reserved-place.result in
-    let edit : Edits at later look after n p = record {
-      numbers = λ j d. c.note_place.ensures.noted.2 j (differs n j d);
-      places = c.insert_reserved-place.ensures.updates.others;
-      own = λ j d there. unused at look n p j c.self.invariant c.insert_reserved-place.ensures.was_vacant there;
-    } in
-    stays_store at later look after n p n (n + 1) c.self.invariant edit (omega arith)
-    (holds later after n p (n + 1) (record { number = n; value = c.args.value }) c.note_place.ensures.noted.1 c.insert_reserved-place.ensures.updates.changed refl (omega arith))
-    (owns later after n p (record { number = n; value = c.args.value }) c.note_place.ensures.noted.1 c.insert_reserved-place.ensures.updates.changed refl)
-    (λ q d there. let l = c.self.invariant.below n q there in absurd (omega (arith, l)))
+    let updates = c.insert_reserved-place.ensures.updates in
+    let put : Held g.row.T.Denot = record { number = n; value = c.args.value } in
+    let moves : Moves index later look after n p (Some p) =
+    pushed index later look after n p put c.self.invariant c.insert_reserved-place.ensures.was_vacant updates.changed refl updates.others c.note.ensures.noted in
+    let mine = sole after n p put updates.changed refl in
+    stays_placed index later look after n p n (n + 1) (Some p) c.self.invariant moves (omega arith) (λ q e. (mine.0 q e, omega arith)) mine.1
+    (λ q d there. let l = c.self.invariant.store.below n q there in absurd (omega (arith, l)))
 
 pub returns-clause-number : goal.returns-clause-number
 returns-clause-number g c = rw (← c.self.view_is) (sym (entries-length _ _ _))
 
 pub returns-clause-entries : goal.returns-clause-entries
 returns-clause-entries g c =
-    let at = get nat_eq c.self.inside.places in
+    let index = get nat_eq c.self.inside.places in
     let look = held_at c.self.inside.held in
-    let later = get nat_eq c.note_place.new.places in
+    let later = get nat_eq c.note.new.places in
     let after = held_at c.insert_reserved-place.new.self in
     let n = c.self.inside.made in
     let p = c.insert_reserved-place.result in
-    let edit : Edits at later look after n p = record {
-      numbers = λ j d. c.note_place.ensures.noted.2 j (differs n j d);
-      places = c.insert_reserved-place.ensures.updates.others;
-      own = λ j d there. unused at look n p j c.self.invariant c.insert_reserved-place.ensures.was_vacant there;
-    } in
-    rw (← c.self.view_is) (added at later look after n p (Some c.args.value) edit
-    (ap (value_there after) c.note_place.ensures.noted.1 ∙ ap (option_map (λ h. h.value)) c.insert_reserved-place.ensures.updates.changed))
+    let updates = c.insert_reserved-place.ensures.updates in
+    let put : Held g.row.T.Denot = record { number = n; value = c.args.value } in
+    let moves : Moves index later look after n p (Some p) =
+    pushed index later look after n p put c.self.invariant c.insert_reserved-place.ensures.was_vacant updates.changed refl updates.others c.note.ensures.noted in
+    rw (← c.self.view_is) (added (place_by index look) (place_by later after) look after n p (Some c.args.value) moves.edit
+    (ap (value_there after) moves.placed ∙ ap (option_map (λ h. h.value)) updates.changed))
