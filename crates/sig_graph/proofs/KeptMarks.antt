@@ -188,7 +188,7 @@ new_standing xs ss x h = record {
 -- ---- each edit
 
 -- no nodes
-pub none_kept : KeepsMarks [] 0 (record { dependants = []; marked = []; stands = [] })
+pub none_kept : KeepsMarks [] 0 (record { dependants = []; marked = []; stands = []; fresh = [] })
 none_kept = record {
   links = refl;
   flags = refl;
@@ -203,7 +203,7 @@ none_kept = record {
 
 -- a set
 pub set_kept : (v : Value) (n : ℕ) (xs : List Node) (gen : ℕ) (t : MarkTable) (us : List Bool) → is_cell_body (body_at xs n) ≡ true → Spreads t.dependants t.marked us n →
-    KeepsMarks xs gen t → KeepsMarks (changed_at (set_node v) n xs) (gen + 1) (record { dependants = t.dependants; marked = us; stands = t.stands })
+    KeepsMarks xs gen t → KeepsMarks (changed_at (set_node v) n xs) (gen + 1) (record { dependants = t.dependants; marked = us; stands = t.stands; fresh = [] })
 set_kept v n xs gen t us cell spread h =
     let c : (c : Cell) × (standing (signals_of xs) n ≡ IsCell c) = cell_stands xs n cell in
     let len : length (changed_at (set_node v) n xs) ≡ length xs = changed_length (set_node v) n xs in
@@ -217,7 +217,7 @@ set_kept v n xs gen t us cell spread h =
 
 -- a rewiring
 pub rewired_kept : (r : Recipe) (n : ℕ) (xs : List Node) (gen : ℕ) (t : MarkTable) (us : List Bool) → is_computed_body (body_at xs n) ≡ true → Pushes t.dependants t.marked us n →
-    KeepsMarks xs gen t → KeepsMarks (changed_at (rewired_node r) n xs) (gen + 1) (record { dependants = t.dependants; marked = us; stands = t.stands })
+    KeepsMarks xs gen t → KeepsMarks (changed_at (rewired_node r) n xs) (gen + 1) (record { dependants = t.dependants; marked = us; stands = t.stands; fresh = [] })
 rewired_kept r n xs gen t us live pushes h =
     let c : (c : Computed) × (standing (signals_of xs) n ≡ IsComputed c) = computed_stands xs n live in
     let len : length (changed_at (rewired_node r) n xs) ≡ length xs = changed_length (rewired_node r) n xs in
@@ -232,7 +232,7 @@ rewired_kept r n xs gen t us live pushes h =
 
 -- a beginning
 pub begun_kept : (n : ℕ) (xs : List Node) (gen : ℕ) (t : MarkTable) (us : List Bool) → is_computed_body (body_at xs n) ≡ true → Pushes t.dependants t.marked us n →
-    KeepsMarks xs gen t → KeepsMarks (changed_at (known_node (Some [])) n xs) gen (record { dependants = t.dependants; marked = us; stands = t.stands })
+    KeepsMarks xs gen t → KeepsMarks (changed_at (known_node (Some [])) n xs) gen (record { dependants = t.dependants; marked = us; stands = t.stands; fresh = [] })
 begun_kept n xs gen t us live pushes h =
     let c : (c : Computed) × (standing (signals_of xs) n ≡ IsComputed c) = computed_stands xs n live in
     let len : length (changed_at (known_node (Some [])) n xs) ≡ length xs = changed_length (known_node (Some [])) n xs in
@@ -261,7 +261,7 @@ known_kept k n xs gen t on h =
 -- an end without a run
 pub stopped_kept : (n : ℕ) (xs : List Node) (gen : ℕ) (t : MarkTable) (us : List Bool) → is_some (known_body (body_at xs n)) ≡ true → length us ≡ length t.marked →
     ((m : ℕ) → marked_at us m ≡ ended (marked_at t.marked) n (stop_unmarks (signals_of xs) (memos_of gen xs) (marked_at t.marked) n) m) →
-    KeepsMarks xs gen t → KeepsMarks (changed_at (known_node None) n xs) gen (record { dependants = t.dependants; marked = us; stands = t.stands })
+    KeepsMarks xs gen t → KeepsMarks (changed_at (known_node None) n xs) gen (record { dependants = t.dependants; marked = us; stands = t.stands; fresh = [] })
 stopped_kept n xs gen t us on size marks h =
     let live : is_computed_body (body_at xs n) ≡ true = computing_here (body_at xs n) on in
     let c : (c : Computed) × (standing (signals_of xs) n ≡ IsComputed c) = computed_stands xs n live in
@@ -313,7 +313,7 @@ links_others n xs dss dss' stands reads standing linked link = record { len = li
 pub run_kept : (o : Outcome) (reads : List ℕ) (n : ℕ) (xs : List Node) (gen : ℕ) (t : MarkTable) (dss : List (List ℕ)) (us : List Bool) → is_some (known_body (body_at xs n)) ≡ true →
     LinksAnew xs t.dependants dss n reads → length us ≡ length t.marked →
     ((m : ℕ) → marked_at us m ≡ ended (marked_at t.marked) n (run_unmarks (signals_of xs) (marked_at t.marked) o reads) m) →
-    KeepsMarks xs gen t → KeepsMarks (changed_at (run_node (memo_made o (map (named_now (memos_of gen xs)) reads) gen)) n xs) gen (record { dependants = dss; marked = us; stands = t.stands })
+    KeepsMarks xs gen t → KeepsMarks (changed_at (run_node (memo_made o (map (named_now (memos_of gen xs)) reads) gen)) n xs) gen (record { dependants = dss; marked = us; stands = t.stands; fresh = [] })
 run_kept o reads n xs gen t dss us on link size marks h =
     let live : is_computed_body (body_at xs n) ≡ true = computing_here (body_at xs n) on in
     let c : (c : Computed) × (standing (signals_of xs) n ≡ IsComputed c) = computed_stands xs n live in
@@ -341,7 +341,7 @@ run_kept o reads n xs gen t dss us on link size marks h =
 
 -- a disposal
 pub gone_kept : (n : ℕ) (xs : List Node) (gen : ℕ) (t : MarkTable) (dss : List (List ℕ)) (us : List Bool) → is_live_body (body_at xs n) ≡ true → Spreads t.dependants t.marked us n →
-    Drops t.dependants dss (kept_names xs n) n → KeepsMarks xs gen t → KeepsMarks (changed_at gone_node n xs) (gen + 1) (record { dependants = dss; marked = slice_set us n true; stands = slice_set t.stands n false })
+    Drops t.dependants dss (kept_names xs n) n → KeepsMarks xs gen t → KeepsMarks (changed_at gone_node n xs) (gen + 1) (record { dependants = dss; marked = slice_set us n true; stands = slice_set t.stands n false; fresh = [] })
 gone_kept n xs gen t dss us live spread drop h =
     let len : length (changed_at gone_node n xs) ≡ length xs = changed_length gone_node n xs in
     let there : is_there (standing (signals_of xs) n) ≡ true = live_here xs n ∙ live in
@@ -406,7 +406,7 @@ record IsThrough (xs : List Node) (ss : List ℕ) (holders : List (Option ℕ)) 
 -- a search that found nothing that must run
 pub searched_kept : (xs : List Node) (seats : Seating) (gen w : ℕ) (t : MarkTable) (ss : List ℕ) (us : List Bool) → NodesAgree xs seats gen w →
     Reaches xs t.marked gen ss [] → length us ≡ length t.marked → ((m : ℕ) → marked_at us m ≡ without_marks (marked_at t.marked) (search_unmarks xs ss seats.holders) m) →
-    KeepsMarks xs gen t → KeepsMarks xs gen (record { dependants = t.dependants; marked = us; stands = t.stands })
+    KeepsMarks xs gen t → KeepsMarks xs gen (record { dependants = t.dependants; marked = us; stands = t.stands; fresh = [] })
 searched_kept xs seats gen w t ss us holds e size marks h = record {
   links = h.links;
   flags = size ∙ h.flags;
@@ -555,9 +555,9 @@ stop_is xs g t n =
 pub names_below : (xs : List Node) (seats : Seating) (gen w n : ℕ) (t : MarkTable) → NodesAgree xs seats gen w → KeepsMarks xs gen t → All (λ m. m < length t.marked) (kept_names xs n)
 names_below xs seats gen w n t holds h = all_in (kept_names xs n) (length t.marked) (λ m q. subst (λ z. m < z) (sym h.flags) (holds.sources n m q))
 
--- a table of these dependants, marks and signals that stand
+-- a table of these dependants, marks and signals that stand, whatever it lists
 pub same_table : (xs : List Node) (gen : ℕ) (u : MarkTable) (dss : List (List ℕ)) (us ss : List Bool) → u.dependants ≡ dss → u.marked ≡ us → u.stands ≡ ss →
-    KeepsMarks xs gen (record { dependants = dss; marked = us; stands = ss }) → KeepsMarks xs gen u
+    KeepsMarks xs gen (record { dependants = dss; marked = us; stands = ss; fresh = [] }) → KeepsMarks xs gen u
 same_table xs gen u dss us ss e f g h = record {
   links = ap length e ∙ h.links;
   flags = ap length f ∙ h.flags;

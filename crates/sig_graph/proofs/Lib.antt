@@ -12,3 +12,4 @@ mod MarkedStates
 mod StateEdits
 mod KeptFinds
 mod KeptMarks
+mod FreshDue

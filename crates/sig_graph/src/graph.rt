@@ -11,6 +11,7 @@ ghost use Rattle.sig_nodes.specs.Nodes.{FewSlotsBody, IsFresh, slots_body};
 ghost use Rattle.sig_graph.specs.States.{are_there, is_computing, is_given, no_state, with_disposal, with_new_cell, with_new_computed, with_rewiring, with_set, Becomes, CanWear, Makes};
 
 use crate::errors::NodeFault;
+use crate::search::note_fresh;
 use crate::spares::Spares;
 use sig_base::{MOST_NODES, NoMemory, NodeId, Value};
 use sig_marks::Marks;
@@ -166,7 +167,9 @@ impl Graph {
         self.marks.spread(id);
         self.generation += 1;
         self.worn += 1;
-        set_value_at(&mut self.nodes, id, value)
+        let before = set_value_at(&mut self.nodes, id, value);
+        note_fresh(&self.nodes, self.worn, self.marks.fresh(), &mut self.finds);
+        before
     }
 
     /// Gives a computed another recipe, and gives the place of the host formula that it asked before. It is refused where it, or a

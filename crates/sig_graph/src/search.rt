@@ -173,6 +173,16 @@ fn note_all(nodes: &Nodes, worn: u128, trail: &mut Trail, finds: &mut Finds)
     }
 }
 
+/// The same of all these, as each of them is so: a set makes those that it marks newly due, or something below them.
+pub(crate) fn note_fresh(nodes: &Nodes, worn: u128, fresh: &[u128], finds: &mut Finds)
+    requires { AreSeated nodes.now.items MOST_NODES }
+    ensures { (g : ℕ) → ((m : ℕ) → is_in m fresh.now ≡ true → HasDue nodes.now.items g m) → KeepsFound nodes.now.items g worn finds.old → KeepsFound nodes.now.items g worn finds.new }
+{
+    for number in fresh {
+        note(nodes, worn, NodeId::of(*number), finds);
+    }
+}
+
 // Begins at a computed.
 fn begin(nodes: &Nodes, id: NodeId, reached: &mut Reached, trail: &mut Trail)
     requires live { is_computed_body (body_at nodes.now.items id) ≡ true }

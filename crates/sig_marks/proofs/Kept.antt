@@ -8,28 +8,27 @@ use Rattle.sig_marks.specs.Sets.{IsMarkTable, keys_of, marks_of, stands_of, stan
 use Rattle.sig_marks.proofs.LinkedSets.{count_end, more_depends, stands_end, stands_is}
 
 -- a mark that is taken where its signal stands
-pub taken_table : {S : Type 0} (ss : List (Option (IndexSet ℕ S))) (ms ms' : List (Option Bool)) (n : ℕ) → stands_of ms' ≡ stands_of ms →
-    marks_of ms' ≡ (if is_some (entry ms n) then slice_set (marks_of ms) n false else marks_of ms) → table_of ss ms' ≡ without_mark (table_of ss ms) n
-taken_table ss ms ms' n e f =
-    (λ i. record { dependants = keys_of ss; marked = f i; stands = e i })
+pub taken_table : {S : Type 0} (ss : List (Option (IndexSet ℕ S))) (ms ms' : List (Option Bool)) (fs : List ℕ) (n : ℕ) → stands_of ms' ≡ stands_of ms →
+    marks_of ms' ≡ (if is_some (entry ms n) then slice_set (marks_of ms) n false else marks_of ms) → table_of ss ms' fs ≡ without_mark (table_of ss ms fs) n
+taken_table ss ms ms' fs n e f =
+    (λ i. record { dependants = keys_of ss; marked = f i; stands = e i; fresh = fs })
     ∙ by (is_some (entry ms n))
-    ∙ ap (λ b. if b then with_mark (table_of ss ms) n false else table_of ss ms) (sym (stands_is ms n))
+    ∙ ap (λ b. if b then with_mark (table_of ss ms fs) n false else table_of ss ms fs) (sym (stands_is ms n))
   where
-    by : (b : Bool) → record { dependants = keys_of ss; marked = if b then slice_set (marks_of ms) n false else marks_of ms; stands = stands_of ms } ≡ (if b then with_mark (table_of ss ms) n false else table_of ss ms)
+    by : (b : Bool) → record { dependants = keys_of ss; marked = if b then slice_set (marks_of ms) n false else marks_of ms; stands = stands_of ms; fresh = fs } ≡ (if b then with_mark (table_of ss ms fs) n false else table_of ss ms fs)
     by true = refl
     by false = refl
 
-module _ {S : Type 0} (ss : List (Option (IndexSet ℕ S))) (ms : List (Option Bool)) (live : ℕ) (st : List ℕ) (cap : ℕ) where
+module _ {S : Type 0} (ss : List (Option (IndexSet ℕ S))) (ms : List (Option Bool)) (live cap : ℕ) where
   -- a signal more
-  pub placed : (x : IndexSet ℕ S) (b : Bool) (st' : List ℕ) (cap' : ℕ) → x.keys ≡ [] → st' ≡ st → live + 1 ≤ cap' → IsMarkTable ss ms live st cap →
-      IsMarkTable (ss ++ Some x ∷ []) (ms ++ Some b ∷ []) (live + 1) st' cap'
-  placed x b st' cap' e same room h = record {
+  pub placed : (x : IndexSet ℕ S) (b : Bool) (cap' : ℕ) → x.keys ≡ [] → live + 1 ≤ cap' → IsMarkTable ss ms live cap →
+      IsMarkTable (ss ++ Some x ∷ []) (ms ++ Some b ∷ []) (live + 1) cap'
+  placed x b cap' e room h = record {
     alike = stands_end ss x ∙ ap (λ bs. bs ++ true ∷ []) h.alike ∙ sym (stands_end ms b);
     within = λ m d on.
         let l : d < length ms = h.within m d (sym (more_depends ss x e m d) ∙ on) in
         let k : length (ms ++ Some b ∷ []) ≡ length ms + 1 = length-append ms (Some b ∷ []) in
         omega (arith, l, k);
     count = ap standing_count (stands_end ms b) ∙ count_end (stands_of ms) ∙ ap (λ n. n + 1) h.count;
-    empty = same ∙ h.empty;
     room = room;
   }

@@ -5,7 +5,7 @@ use Rattle.std.specs.List.{All}
 use Rattle.std.proofs.lemmas.Bool.{eqb-true, eq-eqb}
 use Rattle.std.proofs.lemmas.Bool.Decides.{nat_tests}
 use Rattle.signal_model.specs.Signals.{is_in}
-use Rattle.sig_marks.specs.Tables.{Reached, Spreads, dependants_at, first, marked_at, next}
+use Rattle.sig_marks.specs.Tables.{AreFresh, Reached, Spreads, dependants_at, first, marked_at, next}
 use Rattle.sig_store.specs.Stored.{entry}
 use Rattle.sig_marks.specs.Sets.{mark_in, marks_of, newly_marked, standing_count, stands_of, unmarked_count, with_marks}
 use Rattle.sig_marks.proofs.LinkedSets.{stands_same}
@@ -107,13 +107,13 @@ pushed_all (d ∷ ds) t m h n = go (marked_at t d) refl (λ z. pushed_all ds t m
 
 -- ---- lists of the code
 
-drop_suc : (xs : List ℕ) (i : ℕ) → i < length xs → drop i xs ≡ get_or xs i 0 ∷ drop (suc i) xs
-drop_suc [] i h = absurd (omega arith)
-drop_suc (x ∷ xs) zero h = refl
-drop_suc (x ∷ xs) (suc i) h = let l : i < length xs = omega arith in drop_suc xs i l
+drop_suc : (xs : List ℕ) (i d : ℕ) → i < length xs → drop i xs ≡ get_or xs i d ∷ drop (suc i) xs
+drop_suc [] i d h = absurd (omega arith)
+drop_suc (x ∷ xs) zero d h = refl
+drop_suc (x ∷ xs) (suc i) d h = let l : i < length xs = omega arith in drop_suc xs i d l
 
 pub drop_here : (xs : List ℕ) (i : ℕ) → i < length xs → drop i xs ≡ get_or xs i 0 ∷ drop (i + 1) xs
-drop_here xs i h = let e : suc i ≡ i + 1 = omega arith in drop_suc xs i h ∙ ap (λ j. get_or xs i 0 ∷ drop j xs) e
+drop_here xs i h = let e : suc i ≡ i + 1 = omega arith in drop_suc xs i 0 h ∙ ap (λ j. get_or xs i 0 ∷ drop j xs) e
 
 pub here_within : (xs : List ℕ) (i n : ℕ) → i < length xs → All (λ d. d < n) (drop i xs) → get_or xs i 0 < n
 here_within xs i n l h =
@@ -294,12 +294,43 @@ begun deps t0 n within =
       ];
     }
 
-pub went_on : (deps : List (List ℕ)) (t0 : List Bool) (n : ℕ) (t : List Bool) (S' : List ℕ) (x : ℕ) → Within deps (length t0) → Spreading deps t0 n t (S' ++ x ∷ []) → Spreading deps t0 n (with_marks (dependants_at deps x) t) (S' ++ newly_marked (dependants_at deps x) t)
-went_on deps t0 n t S' x within i =
-    turned deps t0 n t (S' ++ x ∷ []) S' x within i
-    (λ p on. elim (either (is_in p S') (is_in p (x ∷ [])) (sym (is_in_append p S' (x ∷ [])) ∙ on)) [ inl a ↦ inl a | inr b ↦ elim (either (p == x) false b) [ inl c ↦ inr (eqb-true p x c) | inr c ↦ cc ] ])
-    (λ p on. is_in_append p S' (x ∷ []) ∙ or_left (is_in p S') (is_in p (x ∷ [])) on)
-    (inr (i.stack x (is_in_append x S' (x ∷ []) ∙ or_right (is_in x S') (is_in x (x ∷ [])) (or_left (x == x) false (eq-eqb x x refl)))))
+-- those from a place on, with more behind them
+more_behind : (xs ys : List ℕ) (i : ℕ) → i ≤ length xs → drop i (xs ++ ys) ≡ drop i xs ++ ys
+more_behind xs ys zero l = refl
+more_behind [] ys (suc i) l = absurd (omega arith)
+more_behind (x ∷ xs) ys (suc i) l = let k : i ≤ length xs = omega arith in more_behind xs ys i k
+
+-- a turn of the one at a place of the list
+pub went_on : (deps : List (List ℕ)) (t0 : List Bool) (n : ℕ) (t : List Bool) (fs : List ℕ) (i d x : ℕ) → Within deps (length t0) → i < length fs → get_or fs i d ≡ x →
+    Spreading deps t0 n t (drop i fs) → Spreading deps t0 n (with_marks (dependants_at deps x) t) (drop (i + 1) (fs ++ newly_marked (dependants_at deps x) t))
+went_on deps t0 n t fs i d x within l here on =
+    let rest : List ℕ = drop (i + 1) fs in
+    let e : suc i ≡ i + 1 = omega arith in
+    let at : drop i fs ≡ x ∷ rest = drop_suc fs i d l ∙ (λ j. here j ∷ drop (e j) fs) in
+    let k : i + 1 ≤ length fs = omega (arith, l) in
+    let s : Spreading deps t0 n t (x ∷ rest) = subst (Spreading deps t0 n t) at on in
+    subst (Spreading deps t0 n (with_marks (dependants_at deps x) t)) (sym (more_behind fs (newly_marked (dependants_at deps x) t) (i + 1) k))
+    (turned deps t0 n t (x ∷ rest) rest x within s
+    (λ p q. elim (either (p == x) (is_in p rest) q) [ inl a ↦ inr (eqb-true p x a) | inr b ↦ inl b ])
+    (λ p q. or_right (p == x) (is_in p rest) q)
+    (inr (s.stack x (or_left (x == x) (is_in x rest) (eq-eqb x x refl)))))
+
+-- what was listed before that turn, and what it lists, came after n
+pub listed_on : (deps : List (List ℕ)) (t0 : List Bool) (n : ℕ) (u : List Bool) (fs ys : List ℕ) (i : ℕ) → i < length fs → AreFresh deps t0 n fs →
+    Spreading deps t0 n u (drop (i + 1) (fs ++ ys)) → AreFresh deps t0 n (fs ++ ys)
+listed_on deps t0 n u fs ys i l all on = λ m q. elim (either (is_in m fs) (is_in m ys) (sym (is_in_append m fs ys) ∙ q)) [
+  | inl old ↦ all m old
+  | inr new ↦
+      let k : i + 1 ≤ length fs = omega (arith, l) in
+      on.stack m (ap (is_in m) (more_behind fs ys (i + 1) k) ∙ is_in_append m (drop (i + 1) fs) ys ∙ or_right (is_in m (drop (i + 1) fs)) (is_in m ys) new)
+]
+
+-- past the end of the list nothing is left
+pub none_behind : (fs : List ℕ) (i : ℕ) → length fs ≤ i → drop i fs ≡ []
+none_behind [] zero l = refl
+none_behind [] (suc i) l = refl
+none_behind (x ∷ xs) zero l = absurd (omega arith)
+none_behind (x ∷ xs) (suc i) l = let k : length xs ≤ i = omega arith in none_behind xs i k
 
 -- in the end all that is reached is with_marks
 reached_marked : (deps : List (List ℕ)) (t0 : List Bool) (n : ℕ) (t : List Bool) → Spreading deps t0 n t [] → {a m : ℕ} → Reached deps t0 a m → a ≡ n → marked_at t m ≡ true

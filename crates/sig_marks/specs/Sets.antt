@@ -82,16 +82,14 @@ abbrev pub unmarked_count : List Bool → ℕ
 unmarked_count [] = 0
 unmarked_count (t ∷ ts) = (if t then 0 else 1) + unmarked_count ts
 
--- the table that sets and marks make
-abbrev pub table_of : {S : Type 0} → List (Option (IndexSet ℕ S)) → List (Option Bool) → MarkTable
-table_of ss ms = record { dependants = keys_of ss; marked = marks_of ms; stands = stands_of ms }
+-- the table that sets and marks make, with what was marked newly
+abbrev pub table_of : {S : Type 0} → List (Option (IndexSet ℕ S)) → List (Option Bool) → List ℕ → MarkTable
+table_of ss ms fresh = record { dependants = keys_of ss; marked = marks_of ms; stands = stands_of ms; fresh = fresh }
 
--- What holds of sets and marks, of the count of signals that stand, and of the stack by which marks are pushed: a signal that stands has both,
--- dependants were given, and the stack has room for all that stand.
-pub record IsMarkTable {S : Type 0} (ss : List (Option (IndexSet ℕ S))) (ms : List (Option Bool)) (live : ℕ) (stack : List ℕ)
-    (capacity : ℕ) : Type 0 where
+-- What holds of sets and marks, of the count of signals that stand, and of the room of the list by which marks are pushed: a signal that
+-- stands has both, dependants were given, and the list has room for all that stand.
+pub record IsMarkTable {S : Type 0} (ss : List (Option (IndexSet ℕ S))) (ms : List (Option Bool)) (live capacity : ℕ) : Type 0 where
   pub alike : stands_of ss ≡ stands_of ms
   pub within : (m d : ℕ) → depends_in ss m d ≡ true → d < length ms
   pub count : standing_count (stands_of ms) ≡ live
-  pub empty : stack ≡ []
   pub room : live ≤ capacity

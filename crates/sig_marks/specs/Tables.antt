@@ -3,11 +3,12 @@ use Rattle.std.specs.Prelude.{◌≡◌, ℕ, zero, suc, ◌==◌, ◌&&◌, Boo
 use Rattle.signal_model.specs.Signals.{is_in}
 
 -- The dependants of each signal by its number, whether it is marked, and whether it still stands. What is gone has no dependants, and counts
--- as marked: no marking goes on from it.
+-- as marked: no marking goes on from it. Beside them stands what was marked newly by the last marking, in its order.
 pub record MarkTable : Type 0 where
   pub dependants : List (List ℕ)
   pub marked : List Bool
   pub stands : List Bool
+  pub fresh : List ℕ
 
 -- the dependants at a place; past the end there are none
 abbrev pub dependants_at : List (List ℕ) → ℕ → List ℕ
@@ -31,7 +32,7 @@ stands_at ss n = marked_at ss n
 
 -- a signal more, with its mark and without dependants
 abbrev pub with_place : MarkTable → Bool → MarkTable
-with_place t b = record { dependants = t.dependants ++ [] ∷ []; marked = t.marked ++ b ∷ []; stands = t.stands ++ true ∷ [] }
+with_place t b = record t { dependants = t.dependants ++ [] ∷ []; marked = t.marked ++ b ∷ []; stands = t.stands ++ true ∷ [] }
 
 -- a place is marked, or isn't any more
 abbrev pub with_mark : MarkTable → ℕ → Bool → MarkTable
@@ -67,6 +68,10 @@ pub record Spreads (dss : List (List ℕ)) (t u : List Bool) (n : ℕ) : Type 0 
   pub start : (d : ℕ) → depends dss n d ≡ true → marked_at u d ≡ true
   pub on : (m d : ℕ) → marked_at t m ≡ false → marked_at u m ≡ true → depends dss m d ≡ true → marked_at u d ≡ true
   pub only : (m : ℕ) → marked_at u m ≡ true → (marked_at t m ≡ true) ⊎ Reached dss t n m
+
+-- each of these came after n in that marking, and none of them was marked before
+abbrev pub AreFresh : List (List ℕ) → List Bool → ℕ → List ℕ → Type 0
+AreFresh dss t n fresh = (m : ℕ) → is_in m fresh ≡ true → Reached dss t n m
 
 -- n is marked, and then its dependants are; where n was marked already nothing changes
 abbrev pub Pushes : List (List ℕ) → List Bool → List Bool → ℕ → Type 0

@@ -2,7 +2,7 @@
 ghost use Rattle.std.specs.Prelude.{◌≡◌, ◌+◌, ◌<◌, ◌^◌, [], length, true, false, vec_capacity, slice_get, slice_set, IfSome, OnOk, OnErr};
 ghost use Rattle.std.specs.List.{All};
 ghost use Rattle.signal_model.specs.Laws.{AreDistinct};
-ghost use Rattle.sig_marks.specs.Tables.{dependants_at, marked_at, with_mark, with_place, without_mark, Drops, Pushes, Relinks, Spreads};
+ghost use Rattle.sig_marks.specs.Tables.{dependants_at, marked_at, with_mark, with_place, without_mark, AreFresh, Drops, Pushes, Relinks, Spreads};
 
 use crate::links::{drop_links, reader_at, relink};
 use crate::propagation::{drop_mark, is_marked_in, mark_one, spread, unmark_one};
@@ -19,7 +19,8 @@ pub struct Marks {
     dependants: Store<IndexSet<u128>>,
     marked: Store<bool>,
     live: usize,
-    stack: Vec<u128>,
+    // what the last marking marked newly, in its order
+    fresh: Vec<u128>,
 }
 
 impl Drop for Marks {
@@ -29,7 +30,7 @@ impl Drop for Marks {
             dependants: _,
             marked: _,
             live: _,
-            stack: _,
+            fresh: _,
         } = self;
     }
 }
@@ -41,22 +42,22 @@ impl Model for Marks {
 
     ghost Value = { MarkTable };
 
-    ghost view = { λ m. table_of m.dependants.entries m.marked.entries };
+    ghost view = { λ m. table_of m.dependants.entries m.marked.entries m.fresh.items };
 
-    ghost invariant = { λ m. IsMarkTable m.dependants.entries m.marked.entries m.live m.stack.items (vec_capacity m.stack) };
+    ghost invariant = { λ m. IsMarkTable m.dependants.entries m.marked.entries m.live (vec_capacity m.fresh) };
 }
 
 impl Marks {
     /// No signals.
     pub fn new(alloc: Global) -> Marks
-        ensures { result ≡ record { dependants = []; marked = []; stands = [] } }
+        ensures { result ≡ record { dependants = []; marked = []; stands = []; fresh = [] } }
     {
         Marks {
             alloc,
             dependants: Store::new(alloc),
             marked: Store::new(alloc),
             live: 0,
-            stack: Vec::new(alloc),
+            fresh: Vec::new(alloc),
         }
     }
 
@@ -68,7 +69,7 @@ impl Marks {
     {
         self.dependants.reserve(1)?;
         self.marked.reserve(1)?;
-        self.stack.reserve(self.live + 1)?;
+        self.fresh.reserve(self.live + 1)?;
         self.dependants.push(IndexSet::new(self.alloc));
         self.marked.push(marked);
         self.live += 1;
@@ -112,20 +113,29 @@ impl Marks {
         unmark_one(&mut self.marked, id.number());
     }
 
-    /// Marks the dependants of a signal, theirs, and so on; it stops at what is marked already. It takes no memory.
+    /// Marks the dependants of a signal, theirs, and so on; it stops at what is marked already. What it marks newly is listed until the next
+    /// marking. It takes no memory.
     pub fn spread(&mut self, id: NodeId)
         requires { id < length self.old.marked }
         ensures marks { Spreads self.old.dependants self.old.marked self.new.marked id }
         ensures dependants { self.new.dependants ≡ self.old.dependants }
         ensures stands { self.new.stands ≡ self.old.stands }
+        ensures fresh { AreFresh self.old.dependants self.old.marked id self.new.fresh }
     {
         let _count = self.marked.made();
         spread(
             &self.dependants,
             &mut self.marked,
-            &mut self.stack,
+            &mut self.fresh,
             id.number(),
         );
+    }
+
+    /// What the last marking marked newly.
+    pub fn fresh(&self) -> &[u128]
+        ensures { result.now ≡ self.now.fresh }
+    {
+        &self.fresh
     }
 
     /// Marks a signal, and then its dependants, theirs, and so on; where it is marked already nothing changes. It takes no memory.

@@ -1,8 +1,8 @@
-// Marks that are pushed along sets of dependants, with a stack whose room was reserved beforehand.
+// Marks that are pushed along sets of dependants, with a list whose room was reserved beforehand.
 ghost use Rattle.std.specs.Prelude.{◌≡◌, ℕ, ◌+◌, ◌<◌, ◌≤◌, [], ◌∷◌, ◌++◌, length, true, false, is_some, if◌then◌else◌, vec_len, vec_capacity, slice_set};
 ghost use Rattle.std.specs.List.{All};
 ghost use Rattle.sig_store.specs.Stored.{entry};
-ghost use Rattle.sig_marks.specs.Tables.{Spreads, dependants_at, marked_at};
+ghost use Rattle.sig_marks.specs.Tables.{AreFresh, Spreads, dependants_at, marked_at};
 ghost use Rattle.sig_marks.specs.Sets.{depends_in, keys_of, marks_of, newly_marked, standing_count, stands_of, unmarked_count, with_marks};
 
 use crate::presence::stands_in;
@@ -59,45 +59,44 @@ pub(crate) fn drop_mark(marked: &mut Store<bool>, live: &mut usize, id: u128)
     *live -= 1;
 }
 
-// Marks what isn't marked yet, and puts it on the stack. Marks and stack are told apart; the room that was reserved is asked for and
-// given back, so that more may be marked, and what stands on the stack and what is unmarked are as many together as before, which bounds
-// the work.
-fn mark_reader(marked: &mut Store<bool>, stack: &mut Vec<u128>, reader: u128)
+// Marks what isn't marked yet, and lists it as marked newly. Marks and list are told apart; the room that was reserved is asked for and
+// given back, so that more may be marked, and what is listed and what is unmarked are as many together as before, which bounds the work.
+fn mark_reader(marked: &mut Store<bool>, fresh: &mut Vec<u128>, reader: u128)
     requires within { reader < length marked.old.entries }
-    requires room { vec_len stack.old + unmarked_count (marks_of marked.old.entries) ≤ vec_capacity stack.old }
+    requires room { vec_len fresh.old + unmarked_count (marks_of marked.old.entries) ≤ vec_capacity fresh.old }
     ensures marked { marks_of marked.new.entries ≡ slice_set (marks_of marked.old.entries) reader true }
     ensures stands { stands_of marked.new.entries ≡ stands_of marked.old.entries }
-    ensures stack { stack.new.items ≡ stack.old.items ++ newly_marked (reader ∷ []) (marks_of marked.old.entries) }
-    ensures capacity { vec_capacity stack.old ≤ vec_capacity stack.new }
-    ensures room { vec_len stack.new + unmarked_count (marks_of marked.new.entries) ≤ vec_capacity stack.new }
-    ensures work { length stack.new.items + unmarked_count (marks_of marked.new.entries) ≡
-        length stack.old.items + unmarked_count (marks_of marked.old.entries) }
+    ensures fresh { fresh.new.items ≡ fresh.old.items ++ newly_marked (reader ∷ []) (marks_of marked.old.entries) }
+    ensures capacity { vec_capacity fresh.old ≤ vec_capacity fresh.new }
+    ensures room { vec_len fresh.new + unmarked_count (marks_of marked.new.entries) ≤ vec_capacity fresh.new }
+    ensures work { length fresh.new.items + unmarked_count (marks_of marked.new.entries) ≡
+        length fresh.old.items + unmarked_count (marks_of marked.old.entries) }
     ensures fewer { unmarked_count (marks_of marked.new.entries) ≤ unmarked_count (marks_of marked.old.entries) }
 {
     if mark_one(marked, reader) {
         return;
     }
-    match stack.push(reader) {
+    match fresh.push(reader) {
         Ok(_) => {}
         Err(_) => unreachable!(),
     }
 }
 
 // The same for several. Its clauses are the same too, as what holds after one has to hold for the next.
-fn mark_each(readers: &[u128], marked: &mut Store<bool>, stack: &mut Vec<u128>)
+fn mark_each(readers: &[u128], marked: &mut Store<bool>, fresh: &mut Vec<u128>)
     requires within { All (λ d. d < length marked.old.entries) readers.now }
-    requires room { vec_len stack.old + unmarked_count (marks_of marked.old.entries) ≤ vec_capacity stack.old }
+    requires room { vec_len fresh.old + unmarked_count (marks_of marked.old.entries) ≤ vec_capacity fresh.old }
     ensures marked { marks_of marked.new.entries ≡ with_marks readers.now (marks_of marked.old.entries) }
     ensures stands { stands_of marked.new.entries ≡ stands_of marked.old.entries }
-    ensures stack { stack.new.items ≡ stack.old.items ++ newly_marked readers.now (marks_of marked.old.entries) }
-    ensures capacity { vec_capacity stack.old ≤ vec_capacity stack.new }
-    ensures room { vec_len stack.new + unmarked_count (marks_of marked.new.entries) ≤ vec_capacity stack.new }
-    ensures work { length stack.new.items + unmarked_count (marks_of marked.new.entries) ≡
-        length stack.old.items + unmarked_count (marks_of marked.old.entries) }
+    ensures fresh { fresh.new.items ≡ fresh.old.items ++ newly_marked readers.now (marks_of marked.old.entries) }
+    ensures capacity { vec_capacity fresh.old ≤ vec_capacity fresh.new }
+    ensures room { vec_len fresh.new + unmarked_count (marks_of marked.new.entries) ≤ vec_capacity fresh.new }
+    ensures work { length fresh.new.items + unmarked_count (marks_of marked.new.entries) ≡
+        length fresh.old.items + unmarked_count (marks_of marked.old.entries) }
     ensures fewer { unmarked_count (marks_of marked.new.entries) ≤ unmarked_count (marks_of marked.old.entries) }
 {
     for reader in readers {
-        mark_reader(marked, stack, *reader);
+        mark_reader(marked, fresh, *reader);
     }
 }
 
@@ -115,40 +114,43 @@ fn dependants_in(sets: &Store<IndexSet<u128>>, id: u128) -> &[u128]
 fn mark_dependants(
     sets: &Store<IndexSet<u128>>,
     marked: &mut Store<bool>,
-    stack: &mut Vec<u128>,
+    fresh: &mut Vec<u128>,
     id: u128,
 )
     requires within { (m d : ℕ) → depends_in sets.now.entries m d ≡ true → d < length marked.old.entries }
-    requires room { vec_len stack.old + unmarked_count (marks_of marked.old.entries) ≤ vec_capacity stack.old }
+    requires room { vec_len fresh.old + unmarked_count (marks_of marked.old.entries) ≤ vec_capacity fresh.old }
     ensures marked { marks_of marked.new.entries ≡ with_marks (dependants_at (keys_of sets.now.entries) id) (marks_of marked.old.entries) }
     ensures stands { stands_of marked.new.entries ≡ stands_of marked.old.entries }
-    ensures stack { stack.new.items ≡ stack.old.items ++ newly_marked (dependants_at (keys_of sets.now.entries) id) (marks_of marked.old.entries) }
-    ensures capacity { vec_capacity stack.old ≤ vec_capacity stack.new }
-    ensures room { vec_len stack.new + unmarked_count (marks_of marked.new.entries) ≤ vec_capacity stack.new }
-    ensures work { length stack.new.items + unmarked_count (marks_of marked.new.entries) ≡
-        length stack.old.items + unmarked_count (marks_of marked.old.entries) }
+    ensures fresh { fresh.new.items ≡ fresh.old.items ++ newly_marked (dependants_at (keys_of sets.now.entries) id) (marks_of marked.old.entries) }
+    ensures capacity { vec_capacity fresh.old ≤ vec_capacity fresh.new }
+    ensures room { vec_len fresh.new + unmarked_count (marks_of marked.new.entries) ≤ vec_capacity fresh.new }
+    ensures work { length fresh.new.items + unmarked_count (marks_of marked.new.entries) ≡
+        length fresh.old.items + unmarked_count (marks_of marked.old.entries) }
     ensures fewer { unmarked_count (marks_of marked.new.entries) ≤ unmarked_count (marks_of marked.old.entries) }
 {
-    mark_each(dependants_in(sets, id), marked, stack)
+    mark_each(dependants_in(sets, id), marked, fresh)
 }
 
-/// Marks the direct and indirect dependants of a signal, as far as they come through unmarked ones. It takes no memory.
+/// Marks the direct and indirect dependants of a signal, as far as they come through unmarked ones, and lists those. It takes no memory.
 pub(crate) fn spread(
     sets: &Store<IndexSet<u128>>,
     marked: &mut Store<bool>,
-    stack: &mut Vec<u128>,
+    fresh: &mut Vec<u128>,
     id: u128,
 )
     requires within { (m d : ℕ) → depends_in sets.now.entries m d ≡ true → d < length marked.old.entries }
-    requires empty { stack.old.items ≡ [] }
-    requires room { standing_count (stands_of marked.old.entries) ≤ vec_capacity stack.old }
+    requires room { standing_count (stands_of marked.old.entries) ≤ vec_capacity fresh.old }
     ensures marked { Spreads (keys_of sets.now.entries) (marks_of marked.old.entries) (marks_of marked.new.entries) id }
     ensures stands { stands_of marked.new.entries ≡ stands_of marked.old.entries }
-    ensures empty { stack.new.items ≡ [] }
-    ensures capacity { vec_capacity stack.old ≤ vec_capacity stack.new }
+    ensures fresh { AreFresh (keys_of sets.now.entries) (marks_of marked.old.entries) id fresh.new.items }
+    ensures capacity { vec_capacity fresh.old ≤ vec_capacity fresh.new }
 {
-    mark_dependants(sets, marked, stack, id);
-    while let Some(next) = stack.pop() {
-        mark_dependants(sets, marked, stack, next);
+    fresh.clear();
+    mark_dependants(sets, marked, fresh, id);
+    let mut place = 0;
+    while place < fresh.len() {
+        let next = fresh[place];
+        mark_dependants(sets, marked, fresh, next);
+        place += 1;
     }
 }

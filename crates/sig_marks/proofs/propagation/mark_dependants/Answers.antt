@@ -14,5 +14,5 @@ mark_each-requires-clause-within c =
 pub returns-clause-marked : goal.returns-clause-marked
 returns-clause-marked c = c.mark_each.ensures.marked ∙ ap (λ ds. with_marks ds (marks_of c.args.marked.now.entries)) c.dependants_in.ensures
 
-pub returns-clause-stack : goal.returns-clause-stack
-returns-clause-stack c = c.mark_each.ensures.stack ∙ ap (λ ds. c.args.stack.now.items ++ newly_marked ds (marks_of c.args.marked.now.entries)) c.dependants_in.ensures
+pub returns-clause-fresh : goal.returns-clause-fresh
+returns-clause-fresh c = c.mark_each.ensures.fresh ∙ ap (λ ds. c.args.fresh.now.items ++ newly_marked ds (marks_of c.args.marked.now.entries)) c.dependants_in.ensures

@@ -22,7 +22,7 @@ loop-reader-preserved c =
     record {
       marked = onward rs i (marks_of before) (marks_of after) c.loop-reader-test.true step.marked ∙ inv.marked;
       stands = step.stands ∙ inv.stands;
-      stack = onward_new rs i (marks_of before) (marks_of after) c.loop-reader.stack.items c.mark_reader.new.stack.items c.loop-reader-test.true step.marked step.stack ∙ inv.stack;
+      fresh = onward_new rs i (marks_of before) (marks_of after) c.loop-reader.fresh.items c.mark_reader.new.fresh.items c.loop-reader-test.true step.marked step.fresh ∙ inv.fresh;
       within = rest_within rs i (length before) (length after) c.loop-reader-test.true (alike_len before after (sym step.stands)) inv.within;
       room = step.room;
       capacity = omega (arith, cap, cap0);

@@ -1,65 +1,68 @@
-use Rattle.std.proofs.Common.{◌≡◌, ◌<◌, ◌-◌, take, ℕ, List, ◌++◌, [], length, sym, ap, ◌∙◌, subst, arith, Vec, Global}
-use Rattle.sig_marks.specs.Tables.{dependants_at}
+use Rattle.std.proofs.Common.{◌<◌, ◌+◌, [], ◌++◌, drop, length, sym, ap, ◌∙◌, subst, arith}
+use Rattle.sig_marks.specs.Tables.{AreFresh, dependants_at}
 use Rattle.sig_marks.specs.Sets.{keys_of, marks_of, newly_marked}
-use Rattle.sig_marks.proofs.LinkedSets.{alike_len}
-use Rattle.sig_marks.proofs.PushedMarks.{marks_len, unmarked_few, begun, went_on, ended, Spreading}
+use Rattle.sig_marks.proofs.PushedMarks.{marks_len, unmarked_few, begun, went_on, listed_on, none_behind, ended, Spreading}
 use Rattle.sig_marks.proofs.propagation.spread.Goals as goal
-
-empty_len : (v : Vec ℕ Global) → v.items ≡ [] → length v.items ≡ 0
-empty_len v e = ap (λ (ys : List ℕ). length ys) e
 
 pub mark_dependants-requires-clause-room : goal.mark_dependants-requires-clause-room
 mark_dependants-requires-clause-room c =
-    let e = empty_len c.args.stack.now c.requires.empty in
+    let len = c.clear.ensures.len in
+    let cap = c.clear.ensures.capacity in
     let u = unmarked_few c.args.marked.now.entries in
     let r = c.requires.room in
-    omega (arith, e, u, r)
+    omega (arith, len, cap, u, r)
 
-pub loop-next-init : goal.loop-next-init
-loop-next-init c =
+pub loop-place-init : goal.loop-place-init
+loop-place-init c =
     let deps = keys_of c.args.sets.now.entries in
     let ms = c.args.marked.now.entries in
     let t0 = marks_of ms in
     let e = c.mark_dependants.ensures in
     let start = begun deps t0 c.args.id (λ p m on. subst (λ z. m < z) (sym (marks_len ms)) (c.requires.within p m on)) in
+    let listed = subst (λ s. Spreading deps t0 c.args.id (marks_of c.mark_dependants.new.marked.entries) s) (sym (e.fresh ∙ ap (λ ys. ys ++ newly_marked (dependants_at deps c.args.id) t0) c.clear.ensures.items))
+    (subst (λ u. Spreading deps t0 c.args.id u ([] ++ newly_marked (dependants_at deps c.args.id) t0)) (sym e.marked) start) in
+    let cap = e.capacity in
+    let cap0 = c.clear.ensures.capacity in
     record {
-      pushing = subst (λ s. Spreading deps t0 c.args.id (marks_of c.mark_dependants.new.marked.entries) s) (sym (e.stack ∙ ap (λ ys. ys ++ newly_marked (dependants_at deps c.args.id) t0) c.requires.empty))
-          (subst (λ u. Spreading deps t0 c.args.id u ([] ++ newly_marked (dependants_at deps c.args.id) t0)) (sym e.marked) start);
+      pushing = listed;
+      fresh = listed.stack;
       stands = e.stands;
       room = e.room;
-      capacity = e.capacity;
+      capacity = omega (arith, cap, cap0);
     }
 
-pub mark_dependants-requires-in-Some-clause-within : goal.mark_dependants-requires-in-Some-clause-within
-mark_dependants-requires-in-Some-clause-within c = λ m d on.
-    subst (λ z. d < z) (sym (alike_len c.loop-next.marked.entries c.args.marked.now.entries c.loop-next.invariant.stands)) (c.requires.within m d on)
-
-pub loop-next-preserved : goal.loop-next-preserved
-loop-next-preserved c =
+pub loop-place-preserved : goal.loop-place-preserved
+loop-place-preserved c =
     let deps = keys_of c.args.sets.now.entries in
     let ms = c.args.marked.now.entries in
     let t0 = marks_of ms in
-    let t = marks_of c.loop-next.marked.entries in
-    let e = c.mark_dependants-in-Some.ensures in
-    let after = marks_of c.mark_dependants-in-Some.new.marked.entries in
-    let S' = c.pop.new.self.items in
-    let i = subst (λ s. Spreading deps t0 c.args.id t s) c.in-Some.ensures.items c.loop-next.invariant.pushing in
-    let on = went_on deps t0 c.args.id t S' c.in-Some.next (λ p m on. subst (λ z. m < z) (sym (marks_len ms)) (c.requires.within p m on)) i in
+    let t = marks_of c.loop-place.marked.entries in
+    let e = c.mark_dependants-in-loop-place.ensures in
+    let after = marks_of c.mark_dependants-in-loop-place.new.marked.entries in
+    let fs = c.loop-place.fresh.items in
+    let i = c.loop-place.place in
+    let x = c.index-next.result.now in
+    let within = c.loop-place-test.true in
+    let len = c.len.ensures in
+    let l : i < length fs = omega (arith, within, len) in
+    let on = went_on deps t0 c.args.id t fs i x x (λ p m on. subst (λ z. m < z) (sym (marks_len ms)) (c.requires.within p m on)) l (sym c.index-next.ensures) c.loop-place.invariant.pushing in
+    let pushing = subst (λ s. Spreading deps t0 c.args.id after (drop (i + 1) s)) (sym e.fresh) (subst (λ u. Spreading deps t0 c.args.id u (drop (i + 1) (fs ++ newly_marked (dependants_at deps x) t))) (sym e.marked) on) in
     let cap = e.capacity in
-    let pcap = c.in-Some.ensures.capacity in
-    let cap0 = c.loop-next.invariant.capacity in
+    let cap0 = c.loop-place.invariant.capacity in
     record {
-      pushing = subst (λ s. Spreading deps t0 c.args.id after s) (sym e.stack) (subst (λ u. Spreading deps t0 c.args.id u (S' ++ newly_marked (dependants_at deps c.in-Some.next) t)) (sym e.marked) on);
-      stands = e.stands ∙ c.loop-next.invariant.stands;
+      pushing = pushing;
+      fresh = subst (λ s. AreFresh deps t0 c.args.id s) (sym e.fresh)
+          (listed_on deps t0 c.args.id after fs (newly_marked (dependants_at deps x) t) i l c.loop-place.invariant.fresh (subst (λ s. Spreading deps t0 c.args.id after (drop (i + 1) s)) e.fresh pushing));
+      stands = e.stands ∙ c.loop-place.invariant.stands;
       room = e.room;
-      capacity = omega (arith, cap, pcap, cap0);
+      capacity = omega (arith, cap, cap0);
     }
 
 pub returns-clause-marked : goal.returns-clause-marked
 returns-clause-marked c =
     let deps = keys_of c.args.sets.now.entries in
     let t0 = marks_of c.args.marked.now.entries in
-    let t = marks_of c.loop-next.marked.entries in
-    let left = c.in_default.ensures.rest ∙ ap (λ n. take (n - 1) c.loop-next.stack.items) c.in_default.ensures.cases.0 in
-    let nil = c.in_default.ensures.items ∙ ap (λ ys. ys ++ []) left in
-    ended deps t0 c.args.id t (subst (λ s. Spreading deps t0 c.args.id t s) nil c.loop-next.invariant.pushing)
+    let t = marks_of c.loop-place.marked.entries in
+    let past = c.loop-place-test.false in
+    let len = c.len.ensures in
+    ended deps t0 c.args.id t (subst (λ s. Spreading deps t0 c.args.id t s) (none_behind c.loop-place.fresh.items c.loop-place.place (omega (arith, past, len))) c.loop-place.invariant.pushing)

@@ -1,7 +1,10 @@
+use Rattle.sig_graph.proofs.FreshDue.{fresh_due}
 use Rattle.sig_graph.proofs.KeptFinds.{raised_kept}
+use Rattle.sig_graph.proofs.Searches.{seats_apart}
+use Rattle.sig_graph.specs.Search.{HasDue}
 use Rattle.sig_graph.proofs.KeptMarks.{same_table, set_kept}
-use Rattle.std.proofs.Common.{refl, ◌+◌, ◌<◌, List, length, sym, ap, ◌∙◌, subst, arith}
-use Rattle.signal_model.specs.Signals.{standing, is_cell}
+use Rattle.std.proofs.Common.{◌≡◌, ℕ, true, refl, ◌+◌, ◌<◌, List, length, sym, ap, ◌∙◌, subst, arith}
+use Rattle.signal_model.specs.Signals.{standing, is_cell, is_in}
 use Rattle.sig_nodes.specs.declared.node.Node.{Node}
 use Rattle.sig_nodes.specs.Answers.{value_here}
 use Rattle.sig_graph.specs.States.{Seen, with_set}
@@ -14,11 +17,11 @@ use Rattle.sig_graph.proofs.Consistency.{became, cell_below, cell_here, set_hold
 use Rattle.sig_graph.proofs.graph.Graph.replace.Goals as goal
 use Rattle.sig_graph.proofs.Lookups.{value_found}
 
-pub set_value_at-requires-clause-live : goal.set_value_at-requires-clause-live
-set_value_at-requires-clause-live c = cell_here c.self.inside.nodes.items c.args.id (ap (λ (s : Seen). is_cell (standing s.state.signals c.args.id)) c.self.view_is ∙ c.requires.live)
+pub set_value_at-before-requires-clause-live : goal.set_value_at-before-requires-clause-live
+set_value_at-before-requires-clause-live c = cell_here c.self.inside.nodes.items c.args.id (ap (λ (s : Seen). is_cell (standing s.state.signals c.args.id)) c.self.view_is ∙ c.requires.live)
 
-pub set_value_at-requires-clause-worn : goal.set_value_at-requires-clause-worn
-set_value_at-requires-clause-worn c =
+pub set_value_at-before-requires-clause-worn : goal.set_value_at-before-requires-clause-worn
+set_value_at-before-requires-clause-worn c =
     let below = c.self.invariant.fields.numbers c.args.id in
     let wears = ap (λ (s : Seen). s.state.worn) c.self.view_is in
     let worn = c.requires.worn in
@@ -29,6 +32,15 @@ spread-requires c =
     let live = cell_here c.self.inside.nodes.items c.args.id (ap (λ (s : Seen). is_cell (standing s.state.signals c.args.id)) c.self.view_is ∙ c.requires.live) in
     subst (λ z. c.args.id < z) (sym c.self.invariant.marks.flags) (cell_below c.self.inside.nodes.items c.args.id live)
 
+pub note_fresh-requires : goal.note_fresh-requires
+note_fresh-requires c =
+    let xs = c.self.inside.nodes.items in
+    let g = c.self.inside.generation in
+    let w = c.self.inside.worn in
+    seats_apart c.set_value_at-before.new.nodes.items c.self.inside.seats (g + 1) (w + 1)
+    (subst (λ (ys : List Node). NodesAgree ys c.self.inside.seats (g + 1) (w + 1)) (sym c.set_value_at-before.ensures.nodes)
+    (set_holds c.args.value c.args.id xs c.self.inside.seats g w c.self.invariant.fields))
+
 pub invariant_of-self : goal.invariant_of-self
 invariant_of-self c =
     let xs = c.self.inside.nodes.items in
@@ -36,24 +48,28 @@ invariant_of-self c =
     let live = cell_here c.self.inside.nodes.items c.args.id (ap (λ (s : Seen). is_cell (standing s.state.signals c.args.id)) c.self.view_is ∙ c.requires.live) in
     let marks = set_kept c.args.value c.args.id xs g c.self.inside.marks c.spread.new.self.marked live c.spread.ensures.marks c.self.invariant.marks in
     record {
-      fields = subst (λ (ys : List Node). NodesAgree ys c.self.inside.seats (g + 1) (c.self.inside.worn + 1)) (sym c.set_value_at.ensures.nodes)
+      fields = subst (λ (ys : List Node). NodesAgree ys c.self.inside.seats (g + 1) (c.self.inside.worn + 1)) (sym c.set_value_at-before.ensures.nodes)
           (set_holds c.args.value c.args.id xs c.self.inside.seats g c.self.inside.worn c.self.invariant.fields);
-      marks = subst (λ (ys : List Node). KeepsMarks ys (g + 1) c.spread.new.self) (sym c.set_value_at.ensures.nodes)
+      marks = subst (λ (ys : List Node). KeepsMarks ys (g + 1) c.spread.new.self) (sym c.set_value_at-before.ensures.nodes)
           (same_table (changed_at (set_node c.args.value) c.args.id xs) (g + 1) c.spread.new.self c.self.inside.marks.dependants c.spread.new.self.marked c.self.inside.marks.stands c.spread.ensures.dependants refl c.spread.ensures.stands marks);
-      found = raised_kept xs c.set_value_at.new.nodes.items g (g + 1) c.self.inside.worn c.self.inside.finds c.self.invariant.found;
+      found = c.note_fresh.ensures (g + 1)
+          (λ m listed. subst (λ (ys : List Node). HasDue ys (g + 1) m) (sym c.set_value_at-before.ensures.nodes)
+          (fresh_due c.args.value c.args.id xs g c.self.inside.marks live c.self.invariant.marks m
+          (c.spread.ensures.fresh m (subst (λ (fs : List ℕ). is_in m fs ≡ true) c.fresh.ensures listed))))
+          (raised_kept xs c.set_value_at-before.new.nodes.items g (g + 1) c.self.inside.worn c.self.inside.finds c.self.invariant.found);
     }
 
 pub returns-clause-after : goal.returns-clause-after
 returns-clause-after c =
     let xs = c.self.inside.nodes.items in
-    let ys = c.set_value_at.new.nodes.items in
+    let ys = c.set_value_at-before.new.nodes.items in
     let g = c.self.inside.generation in
     let l = c.self.inside.looked in
     let w = c.self.inside.worn in
-    let len = ap length c.set_value_at.ensures.nodes ∙ changed_length (set_node c.args.value) c.args.id xs in
+    let len = ap length c.set_value_at-before.ensures.nodes ∙ changed_length (set_node c.args.value) c.args.id xs in
     became c.args.self.now (state_of xs g l w) (state_of ys (g + 1) l (w + 1)) (with_set c.args.self.now.state c.args.id c.args.value) c.self.inside.seats.holders c.self.inside.seats.holders (length xs) (length ys) c.self.view_is len
-    (ap (λ zs. state_of zs (g + 1) l (w + 1)) c.set_value_at.ensures.nodes ∙ set_state xs c.args.id c.args.value g l w ∙ ap (λ (s : Seen). with_set s.state c.args.id c.args.value) c.self.view_is)
+    (ap (λ zs. state_of zs (g + 1) l (w + 1)) c.set_value_at-before.ensures.nodes ∙ set_state xs c.args.id c.args.value g l w ∙ ap (λ (s : Seen). with_set s.state c.args.id c.args.value) c.self.view_is)
 
 pub returns-clause-before : goal.returns-clause-before
 returns-clause-before c =
-    sym (ap (λ (s : Seen). value_here (standing s.state.signals c.args.id)) c.self.view_is) ∙ value_found c.self.inside.nodes.items c.args.id ∙ c.set_value_at.ensures.before
+    sym (ap (λ (s : Seen). value_here (standing s.state.signals c.args.id)) c.self.view_is) ∙ value_found c.self.inside.nodes.items c.args.id ∙ c.set_value_at-before.ensures.before

@@ -9,11 +9,10 @@ invariant_of-self-2 c =
     let ss = c.self.inside.dependants.entries in
     let ms = c.self.inside.marked.entries in
     let live = c.self.inside.live in
-    let st = c.reserve-3.new.self.items in
     let cap = vec_capacity c.reserve-3.new.self in
     let sets = c.push.ensures.entries ∙ ap (λ ys. ys ++ Some c.new.result ∷ []) c.reserve.ensures.entries in
     let marks = c.push-2.ensures.entries ∙ ap (λ (ys : List (Option Bool)). ys ++ Some c.args.marked ∷ []) c.reserve-2.ensures.entries in
     let ok = c.in_ok-reserve-3.ensures.ok in
-    let h = placed ss ms live c.self.inside.stack.items (vec_capacity c.self.inside.stack) c.new.result c.args.marked st cap c.new.ensures.empty c.in_ok-reserve-3.ensures.items (omega (arith, ok)) c.self.invariant in
-    subst (λ yss. IsMarkTable yss c.push-2.new.self.entries (live + 1) st cap) (sym sets)
-    (subst (λ (ts : List (Option Bool)). IsMarkTable (ss ++ Some c.new.result ∷ []) ts (live + 1) st cap) (sym marks) h)
+    let h = placed ss ms live (vec_capacity c.self.inside.fresh) c.new.result c.args.marked cap c.new.ensures.empty (omega (arith, ok)) c.self.invariant in
+    subst (λ yss. IsMarkTable yss c.push-2.new.self.entries (live + 1) cap) (sym sets)
+    (subst (λ (ts : List (Option Bool)). IsMarkTable (ss ++ Some c.new.result ∷ []) ts (live + 1) cap) (sym marks) h)

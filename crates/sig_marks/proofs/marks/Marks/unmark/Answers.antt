@@ -6,5 +6,5 @@ use Rattle.sig_marks.proofs.marks.Marks.unmark.Goals as goal
 
 pub returns : goal.returns
 returns c =
-    taken_table c.self.inside.dependants.entries c.self.inside.marked.entries c.unmark_one.new.marked.entries c.number.result c.unmark_one.ensures.stands c.unmark_one.ensures.marked
-    ∙ ap (without_mark (table_of c.self.inside.dependants.entries c.self.inside.marked.entries)) c.number.ensures ∙ ap (λ (t : MarkTable). without_mark t c.args.id) c.self.view_is
+    taken_table c.self.inside.dependants.entries c.self.inside.marked.entries c.unmark_one.new.marked.entries c.self.inside.fresh.items c.number.result c.unmark_one.ensures.stands c.unmark_one.ensures.marked
+    ∙ ap (without_mark (table_of c.self.inside.dependants.entries c.self.inside.marked.entries c.self.inside.fresh.items)) c.number.ensures ∙ ap (λ (t : MarkTable). without_mark t c.args.id) c.self.view_is
