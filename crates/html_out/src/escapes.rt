@@ -1,12 +1,12 @@
 // Texts and attribute values, escaped.
-ghost use Rattle.std.specs.Prelude.{◌≡◌, ◌++◌, IfOk, OnOk, codes, false, true};
+ghost use Rattle.std.specs.Prelude.{◌≡◌, ◌++◌, OnOk, codes, true};
 ghost use Rattle.std.specs.List.{list_all};
 ghost use Rattle.html_out.specs.Html.{attribute, escaped, escaped_value, in_text, in_value, is_plain};
 
 use sig_base::NoMemory;
 
 // So many bytes are put one by one, which takes less than to copy them at once.
-const FEW: usize = 16;
+const FEW: usize = 4;
 
 // Appends bytes one by one.
 fn put_few(out: &mut Vec<u8>, bytes: &[u8]) -> Result<(), NoMemory>
@@ -62,32 +62,27 @@ fn is_plain(byte: u8) -> bool
     byte.is_ascii() && byte != b'"' && byte != b'&' && byte != b'<' && byte != b'>'
 }
 
-// Appends bytes where each is a character that is written as it is; whether they were appended.
-fn put_plain(out: &mut Vec<u8>, bytes: &[u8]) -> Result<bool, NoMemory>
-    ensures plain { IfOk result (λ all. all ≡ true → list_all is_plain bytes.now ≡ true) }
-    ensures all { IfOk result (λ all. all ≡ true → out.new.items ≡ out.old.items ++ bytes.now) }
-    ensures none { IfOk result (λ all. all ≡ false → out.new.items ≡ out.old.items) }
+// Whether each byte is a character that is written as it is.
+fn are_plain(bytes: &[u8]) -> bool
+    ensures { result ≡ list_all is_plain bytes.now }
 {
-    let count = out.len();
-    out.reserve(bytes.len())?;
-    for byte in bytes {
-        if !is_plain(*byte) {
-            out.truncate(count);
-            return Ok(false);
-        }
-        out.push_reserved(*byte);
-    }
-    Ok(true)
+    bytes.iter().all(|byte| is_plain(*byte))
+}
+
+/// Whether a text is known to be written in an element as it is.
+#[tactic(auto, using(crate::proofs::Plain::plain_text))]
+pub fn is_plain_text(text: &str) -> bool
+    ensures { result ≡ true → escaped text.now ≡ text.now }
+{
+    are_plain(text.as_bytes())
 }
 
 /// Appends the text, escaped as in an element (WHATWG HTML, escaping a string).
-#[tactic(auto, using(crate::proofs::Plain::plain_text))]
 pub fn put_text(out: &mut Vec<u8>, text: &str) -> Result<(), NoMemory>
     ensures { OnOk result (out.new.items ≡ out.old.items ++ escaped text.now) }
 {
-    let plain = put_plain(out, text.as_bytes())?;
-    if plain {
-        return Ok(());
+    if is_plain_text(text) {
+        return put_bytes(out, text.as_bytes());
     }
     put_text_chars(out, text)
 }
@@ -106,9 +101,8 @@ fn put_text_chars(out: &mut Vec<u8>, text: &str) -> Result<(), NoMemory>
 fn put_value(out: &mut Vec<u8>, value: &str) -> Result<(), NoMemory>
     ensures { OnOk result (out.new.items ≡ out.old.items ++ escaped_value value.now) }
 {
-    let plain = put_plain(out, value.as_bytes())?;
-    if plain {
-        return Ok(());
+    if are_plain(value.as_bytes()) {
+        return put_bytes(out, value.as_bytes());
     }
     put_value_chars(out, value)
 }

@@ -4,5 +4,5 @@
 mod escapes;
 mod names;
 
-pub use escapes::{put_attr, put_bytes, put_text};
+pub use escapes::{is_plain_text, put_attr, put_bytes, put_text};
 pub use names::{good_name, is_raw, is_void};
