@@ -1,5 +1,5 @@
 // Texts and attribute values, escaped.
-ghost use Rattle.std.specs.Prelude.{◌≡◌, ◌++◌, OnOk, codes, true};
+ghost use Rattle.std.specs.Prelude.{◌≡◌, ◌≤◌, ◌+◌, ◌++◌, OnOk, codes, length, true, vec_capacity, vec_len};
 ghost use Rattle.std.specs.List.{list_all};
 ghost use Rattle.html_out.specs.Html.{attribute, escaped, escaped_value, in_text, in_value, is_plain};
 
@@ -8,26 +8,35 @@ use sig_base::NoMemory;
 // So many bytes are put one by one, which takes less than to copy them at once.
 const FEW: usize = 4;
 
-// Appends bytes one by one.
-fn put_few(out: &mut Vec<u8>, bytes: &[u8]) -> Result<(), NoMemory>
-    ensures { OnOk result (out.new.items ≡ out.old.items ++ bytes.now) }
+// Appends bytes one by one, for which there is room.
+fn put_few(out: &mut Vec<u8>, bytes: &[u8])
+    requires { vec_len out.old + length bytes.now ≤ vec_capacity out.old }
+    ensures { out.new.items ≡ out.old.items ++ bytes.now }
 {
-    out.reserve(bytes.len())?;
     for byte in bytes {
         out.push_reserved(*byte);
     }
+}
+
+// Appends bytes at once. It stands apart, as it makes room where there is none.
+#[inline(never)]
+fn put_many(out: &mut Vec<u8>, bytes: &[u8]) -> Result<(), NoMemory>
+    ensures { OnOk result (out.new.items ≡ out.old.items ++ bytes.now) }
+{
+    out.extend_from_slice(bytes)?;
     Ok(())
 }
 
-/// Appends bytes: few one by one, more at once.
+/// Appends bytes: few one by one where there is room for them, others at once.
+#[inline]
 pub fn put_bytes(out: &mut Vec<u8>, bytes: &[u8]) -> Result<(), NoMemory>
     ensures { OnOk result (out.new.items ≡ out.old.items ++ bytes.now) }
 {
-    if bytes.len() <= FEW {
-        put_few(out, bytes)?;
-        return Ok(());
+    let room = out.capacity() - out.len();
+    if FEW < bytes.len() || room < bytes.len() {
+        return put_many(out, bytes);
     }
-    out.extend_from_slice(bytes)?;
+    put_few(out, bytes);
     Ok(())
 }
 
