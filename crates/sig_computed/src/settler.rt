@@ -20,10 +20,11 @@ use crate::frames::{Doing, Learnt, Open, Outer, Turn, begin_run, go_in, go_out};
 use crate::notes::RunNote;
 use crate::turns::{is_clean, next_turn, outcome_of};
 use crate::visited::Visited;
-use sig_base::{NoMemory, NodeId, Outcome};
+use sig_base::{Fault, NoMemory, NodeId, Outcome};
 use sig_graph::{Graph, IdList, Standing};
 use sig_host::{Lent, Shelf};
 use std::alloc::Global;
+use std::mem;
 
 // Begins the evaluation of a computed: what is stale runs, and all else looks first.
 #[inline(always)]
@@ -52,25 +53,24 @@ fn names_until(alloc: Global, learnt: &Learnt, last: NodeId) -> Result<Vec<NodeI
     Ok(all)
 }
 
-// Keeps a run in the graph, by the names of what it read, and gives the list of these that is kept. Its outcome is taken from where it
-// stands.
+// Keeps a run in the graph, by the names of what it read, and gives the list of these that is kept.
 fn keep_in(
     graph: &mut Graph,
     node: NodeId,
     names: &[NodeId],
-    outcome: &mut Outcome,
+    outcome: &Outcome,
 ) -> Result<IdList, NoMemory>
     requires computing { is_computing graph.old.state node ≡ true }
     requires given { All (λ n. is_given graph.old n ≡ true) names.now }
     requires worn { CanWear graph.old.state }
     ensures list { IfOk result (λ l. l.items ≡ names.now) }
-    ensures kept { OnOk result ((reads : List Seen) → names.now ≡ names_of reads → IsKept graph.old graph.new node (record { reads = reads; outcome = outcome.old })) }
+    ensures kept { OnOk result ((reads : List Seen) → names.now ≡ names_of reads → IsKept graph.old graph.new node (record { reads = reads; outcome = outcome.now })) }
 {
     let list = graph.keep_reads(node, outcome, names)?;
     Ok(list)
 }
 
-// Keeps a run by the names of what it read, and notes it: its outcome is copied for the note alone.
+// Keeps a run by the names of what it read, and notes it: the note has the outcome that stood in its place, and the graph a copy.
 fn keep(
     graph: &mut Graph,
     notes: &mut Vec<RunNote>,
@@ -84,8 +84,8 @@ fn keep(
     ensures after { OnOk result ((seen : List Seen) → names.now ≡ names_of seen → IsKept graph.old graph.new node (evaluation_of seen outcome.old)) }
     ensures notes { OnOk result (map note_of notes.new.items ≡ map note_of notes.old.items ++ (record { name = node; reads = names.now; outcome = outcome.old }) ∷ []) }
 {
-    let noted = outcome.copy()?;
     let reads = keep_in(graph, node, names, outcome)?;
+    let noted = mem::replace(outcome, Outcome::Bad(Fault::Cycle));
     notes.push(RunNote {
         id: node,
         reads,

@@ -1,8 +1,8 @@
 // The calls of an evaluation.
-ghost use Rattle.std.specs.Prelude.{◌≡◌, ◌+◌, ◌<◌, ◌≤◌, ◌&&◌, not, if◌then◌else◌, [], length, take, true, false, None, Some, IfOk, IfSome, OnOk, is_some, slice_get};
+ghost use Rattle.std.specs.Prelude.{◌≡◌, ◌+◌, ◌<◌, ◌≤◌, ◌&&◌, not, if◌then◌else◌, [], length, take, true, false, None, Some, IfOk, IfSome, IfNone, OnOk, slice_get};
 ghost use Rattle.std.specs.List.{All};
 ghost use Rattle.signal_model.specs.Signals.{is_computed, standing};
-ghost use Rattle.signal_model.specs.Memos.{holds_cycle, is_stale, memo_of, source_names, sources_of};
+ghost use Rattle.signal_model.specs.Memos.{holds_cycle, is_stale, sources_of};
 ghost use Rattle.sig_nodes.specs.declared.answers.Asked.TheVariants.{Ended};
 ghost use Rattle.sig_graph.specs.Reading.{HasReadOn};
 ghost use Rattle.sig_graph.specs.Looks.{has_moved};
@@ -12,14 +12,13 @@ ghost use Rattle.sig_nodes.specs.Computations.{GoesOn};
 
 use crate::end_marks::{end_mark, run_unmarks, stop_unmarks};
 use crate::graph::Graph;
-use crate::links::{copied, kept_list, relink};
+use crate::links::{copied, relink};
 use crate::reading::read_slots;
-use sig_base::{Fault, Known, NoMemory, NodeId, Outcome};
+use sig_base::{Known, NoMemory, NodeId, Outcome};
 use sig_nodes::{
     Asked, IdList, Memo, ask_at, begin_at, compared_at, computation_at, end_at, keep_memo_at,
     numbers_now, renew_memo_at,
 };
-use std::mem;
 
 /// One counted step more.
 pub(crate) fn counted(looked: u128) -> u128
@@ -204,87 +203,81 @@ impl Graph {
         Ok(())
     }
 
-    // Ends an evaluation with a run that read what the kept one did. Its clauses are those of any run, beside what it needs of the kept one.
+    // Ends an evaluation with a run that read exactly what the kept one did, and gives the list of it, none where it read something else: then
+    // nothing changes. Its clauses are those of any run, beside that.
     fn keep_again(
         &mut self,
         id: NodeId,
-        outcome: &mut Outcome,
+        outcome: &Outcome,
         reads: &[NodeId],
-    ) -> Result<(), NoMemory>
-        requires kept { is_some (memo_of self.old.state.memos id) ≡ true }
-        requires same { source_names (sources_of self.old.state.memos id) ≡ reads.now }
+    ) -> Result<Option<IdList>, NoMemory>
         requires computing { is_computing self.old.state id ≡ true }
         requires given { All (λ n. is_given self.old n ≡ true) reads.now }
         requires worn { CanWear self.old.state }
-        ensures after { OnOk result (Becomes self.old self.new (with_kept_run self.old.state id outcome.old reads.now)) }
-        ensures seats { OnOk result (self.new.seats ≡ self.old.seats) }
+        ensures list { IfOk result (λ o. IfSome o (λ l. l.items ≡ reads.now)) }
+        ensures after { IfOk result (λ o. IfSome o (λ l. Becomes self.old self.new (with_kept_run self.old.state id outcome.now reads.now))) }
+        ensures seats { IfOk result (λ o. IfSome o (λ l. self.new.seats ≡ self.old.seats)) }
+        ensures other { IfOk result (λ o. IfNone o (self.new ≡ self.old)) }
     {
         let _count = self.nodes.made();
         numbers_now(&mut self.room, &self.nodes, reads)?;
         let unmarks = run_unmarks(&self.nodes, &self.marks, outcome, reads);
-        end_mark(&mut self.marks, id, unmarks);
-        self.worn += 1;
-        renew_memo_at(
+        let Some(list) = renew_memo_at(
             &mut self.nodes,
             id,
             outcome,
+            reads,
             &mut self.room,
             self.generation,
-        );
-        Ok(())
-    }
-
-    // The list of what a computed's kept run read, where it read exactly these.
-    fn kept_list(&self, id: NodeId, reads: &[NodeId]) -> Result<Option<IdList>, NoMemory>
-        ensures kept { IfOk result (λ o. is_some o ≡ true → is_some (memo_of self.now.state.memos id) ≡ true) }
-        ensures same { IfOk result (λ o. is_some o ≡ true → source_names (sources_of self.now.state.memos id) ≡ reads.now) }
-        ensures list { IfOk result (λ o. IfSome o (λ l. l.items ≡ reads.now)) }
-    {
-        let list = kept_list(&self.nodes, id, reads)?;
-        Ok(list)
+        )?
+        else {
+            return Ok(None);
+        };
+        end_mark(&mut self.marks, id, unmarks);
+        self.worn += 1;
+        Ok(Some(list))
     }
 
     // Ends an evaluation with a run, and gives what it read in a new list.
     fn keep_anew(
         &mut self,
         id: NodeId,
-        outcome: &mut Outcome,
+        outcome: &Outcome,
         reads: &[NodeId],
     ) -> Result<IdList, NoMemory>
         requires computing { is_computing self.old.state id ≡ true }
         requires given { All (λ n. is_given self.old n ≡ true) reads.now }
         requires worn { CanWear self.old.state }
         ensures list { IfOk result (λ l. l.items ≡ reads.now) }
-        ensures after { OnOk result (Becomes self.old self.new (with_kept_run self.old.state id outcome.old reads.now)) }
+        ensures after { OnOk result (Becomes self.old self.new (with_kept_run self.old.state id outcome.now reads.now)) }
         ensures seats { OnOk result (self.new.seats ≡ self.old.seats) }
     {
         let ids = copied(self.alloc, reads)?;
         let list = IdList::of(self.alloc, ids)?;
         let kept = list.copy()?;
-        let outcome = mem::replace(outcome, Outcome::Bad(Fault::Cycle));
-        self.keep_list(id, outcome, kept)?;
+        let same = outcome.copy()?;
+        self.keep_list(id, same, kept)?;
         Ok(list)
     }
 
     /// Ends an evaluation with a run, as `keep_run` does, and gives what it read in the list that is kept: that of the kept run, where it
-    /// read the same. The outcome is taken from where it stands.
+    /// read the same.
     pub fn keep_reads(
         &mut self,
         id: NodeId,
-        outcome: &mut Outcome,
+        outcome: &Outcome,
         reads: &[NodeId],
     ) -> Result<IdList, NoMemory>
         requires computing { is_computing self.old.state id ≡ true }
         requires given { All (λ n. is_given self.old n ≡ true) reads.now }
         requires worn { CanWear self.old.state }
         ensures list { IfOk result (λ l. l.items ≡ reads.now) }
-        ensures after { OnOk result (Becomes self.old self.new (with_kept_run self.old.state id outcome.old reads.now)) }
+        ensures after { OnOk result (Becomes self.old self.new (with_kept_run self.old.state id outcome.now reads.now)) }
         ensures seats { OnOk result (self.new.seats ≡ self.old.seats) }
     {
-        let Some(list) = self.kept_list(id, reads)? else {
+        let Some(list) = self.keep_again(id, outcome, reads)? else {
             return self.keep_anew(id, outcome, reads);
         };
-        self.keep_again(id, outcome, reads)?;
         Ok(list)
     }
 

@@ -1,5 +1,5 @@
 // Computeds among the dependants of what they read.
-ghost use Rattle.std.specs.Prelude.{◌≡◌, ◌<◌, length, true, is_some, IfOk, IfSome, OnErr, OnOk};
+ghost use Rattle.std.specs.Prelude.{◌≡◌, ◌<◌, length, true, IfOk, OnErr, OnOk};
 ghost use Rattle.std.specs.List.{All};
 ghost use Rattle.signal_model.specs.Memos.{source_names, sources_in};
 ghost use Rattle.sig_nodes.specs.Nodes.{body_at, memo_body};
@@ -7,7 +7,7 @@ ghost use Rattle.sig_graph.specs.Places.{AreLinked, KeepsStanding, LinksAnew};
 
 use sig_base::{NoMemory, NodeId};
 use sig_marks::Marks;
-use sig_nodes::{Computation, IdList, Nodes, computation_at, sources_at};
+use sig_nodes::{Nodes, sources_at};
 use std::alloc::Global;
 
 // Whether these are the same ids in one order.
@@ -15,37 +15,6 @@ fn are_same(ids: &[NodeId], others: &[NodeId]) -> bool
     ensures { result ≡ true → ids.now ≡ others.now }
 {
     ids == others
-}
-
-// Whether a computed keeps a run that read exactly these.
-fn keeps_reads(computation: &Computation, reads: &[NodeId]) -> bool
-    ensures kept { result ≡ true → is_some computation.now.memo ≡ true }
-    ensures same { result ≡ true → source_names (sources_in computation.now.memo) ≡ reads.now }
-{
-    if !computation.has_run() {
-        return false;
-    }
-    are_same(computation.sources(), reads)
-}
-
-/// The list of what a computed's kept run read, where it read exactly these.
-pub(crate) fn kept_list(
-    nodes: &Nodes,
-    id: NodeId,
-    reads: &[NodeId],
-) -> Result<Option<IdList>, NoMemory>
-    ensures kept { IfOk result (λ o. is_some o ≡ true → is_some (memo_body (body_at nodes.now.items id)) ≡ true) }
-    ensures same { IfOk result (λ o. is_some o ≡ true → source_names (sources_in (memo_body (body_at nodes.now.items id))) ≡ reads.now) }
-    ensures list { IfOk result (λ o. IfSome o (λ l. l.items ≡ reads.now)) }
-{
-    let Some(computation) = computation_at(nodes, id) else {
-        return Ok(None);
-    };
-    if !keeps_reads(computation, reads) {
-        return Ok(None);
-    }
-    let list = computation.shared_sources()?;
-    Ok(Some(list))
 }
 
 /// These, in a list of their own.

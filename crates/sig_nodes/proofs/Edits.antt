@@ -41,7 +41,13 @@ written [] n x y g h made = refl
 written (z ∷ xs) zero x y g h made = let e : z ≡ x = cc in ap (λ w. w ∷ xs) (made ∙ ap g (sym e))
 written (z ∷ xs) (suc n) x y g h made = ap (λ (ys : List Node). z ∷ ys) (written xs n x y g h made)
 
--- and stands there then
+-- and where it is as it was, so are the nodes
+pub unwritten : (xs : List Node) (n : ℕ) (x y : Node) → slice_get xs n ≡ Some x → y ≡ x → slice_set xs n y ≡ xs
+unwritten [] n x y h same = refl
+unwritten (z ∷ xs) zero x y h same = let e : z ≡ x = cc in ap (λ w. w ∷ xs) (same ∙ sym e)
+unwritten (z ∷ xs) (suc n) x y h same = ap (λ (ys : List Node). z ∷ ys) (unwritten xs n x y h same)
+
+-- what is written stands there then
 pub body_written : (xs : List Node) (n : ℕ) (x y : Node) → slice_get xs n ≡ Some x → body_at (slice_set xs n y) n ≡ y.body
 body_written [] n x y h = cc
 body_written (z ∷ xs) zero x y h = refl

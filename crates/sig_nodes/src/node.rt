@@ -1,6 +1,7 @@
 // One signal's node.
-ghost use Rattle.std.specs.Prelude.{◌≡◌, ℕ, ◌+◌, ◌<◌, ◌^◌, ◌++◌, ◌∷◌, [], List, Option, length, take, true, false, None, Some, IfOk, IfSome, IfNone, OnOk, is_some, slice_get, if◌then◌else◌};
+ghost use Rattle.std.specs.Prelude.{◌≡◌, ℕ, ◌+◌, ◌<◌, ◌^◌, ◌++◌, ◌∷◌, [], List, Option, length, take, true, false, None, Some, IfOk, IfSome, IfNone, OnErr, OnOk, is_some, slice_get, if◌then◌else◌};
 ghost use Rattle.std.specs.Option.{option_copied};
+ghost use Rattle.sig_base.specs.Values.{same_outcome};
 ghost use Rattle.signal_model.specs.Recipes.{Hosts};
 ghost use Rattle.signal_model.specs.Recipes as recipes;
 ghost use Rattle.signal_model.specs.Asks.{is_host};
@@ -106,12 +107,11 @@ impl Memo {
         self.sources.as_slice()
     }
 
-    // The sources in the list that the memo has.
-    fn shared_sources(&self) -> Result<IdList, NoMemory>
-        ensures { IfOk result (λ l. l.items ≡ source_names self.now.sources) }
+    // Whether it is of a run that read exactly these.
+    fn has_read(&self, names: &[NodeId]) -> bool
+        ensures { result ≡ true → source_names self.now.sources ≡ names.now }
     {
-        let list = self.sources.copy()?;
-        Ok(list)
+        are_same(self.sources(), names)
     }
 
     fn source(&self, place: usize) -> Option<Source>
@@ -138,16 +138,30 @@ impl Memo {
         }
     }
 
-    // A run more of the same sources, of which these are the numbers now. Its outcome and these go where those of before stand, which are
-    // left in their places.
-    fn renew(&mut self, outcome: &mut Outcome, numbers: &mut Vec<Option<u128>>, generation: u128)
-        requires { length numbers.old.items ≡ length self.old.sources }
-        ensures { self.new ≡ renewed (Some self.old) outcome.old numbers.old.items generation }
+    // A run more of the same sources, of which these are the numbers now: they go where those of before stand, which are left in their place.
+    // The computed's own number rises where the outcome is another. It gives the list of the sources; without memory nothing changes. The
+    // sources, the memo, the number and the list are told apart, and so are the ends with memory and without.
+    fn renew(
+        &mut self,
+        number: &mut u128,
+        outcome: &Outcome,
+        numbers: &mut Vec<Option<u128>>,
+        generation: u128,
+    ) -> Result<IdList, NoMemory>
+        requires numbers { length numbers.old.items ≡ length self.old.sources }
+        requires worn { number.old + 1 < 2 ^ 128 }
+        ensures memo { OnOk result (self.new ≡ renewed (Some self.old) outcome.now numbers.old.items generation) }
+        ensures number { OnOk result (number.new ≡ number.old + (if has_outcome (Some self.old) outcome.now then 0 else 1)) }
+        ensures list { IfOk result (λ l. l.items ≡ source_names self.old.sources) }
+        ensures err { OnErr result (self.new ≡ self.old) }
+        ensures err_number { OnErr result (number.new ≡ number.old) }
     {
-        mem::swap(&mut self.outcome, outcome);
+        let list = self.sources.copy()?;
+        put_outcome(&mut self.outcome, number, outcome)?;
         mem::swap(&mut self.numbers, numbers);
         self.generation = generation;
         self.rewired = false;
+        Ok(list)
     }
 
     fn mark_rewired(&mut self)
@@ -155,6 +169,29 @@ impl Memo {
     {
         self.rewired = true;
     }
+}
+
+// Whether these are the same ids in one order.
+fn are_same(ids: &[NodeId], others: &[NodeId]) -> bool
+    ensures { result ≡ true → ids.now ≡ others.now }
+{
+    ids == others
+}
+
+// Puts an outcome in place of another one, and raises a number by one, where the two aren't the same. Without memory nothing changes.
+fn put_outcome(held: &mut Outcome, number: &mut u128, outcome: &Outcome) -> Result<(), NoMemory>
+    requires { number.old + 1 < 2 ^ 128 }
+    ensures held { OnOk result (held.new ≡ outcome.now) }
+    ensures number { OnOk result (number.new ≡ number.old + (if same_outcome held.old outcome.now then 0 else 1)) }
+    ensures err { OnErr result (held.new ≡ held.old) }
+    ensures err_number { OnErr result (number.new ≡ number.old) }
+{
+    if held.same(outcome) {
+        return Ok(());
+    }
+    *held = outcome.copy()?;
+    *number += 1;
+    Ok(())
 }
 
 /// Whether an outcome is the fault `cycle`.
@@ -257,18 +294,6 @@ impl Computation {
         match &self.memo {
             Some(memo) => memo.sources(),
             None => &[],
-        }
-    }
-
-    /// The sources of the run that it keeps, in the list that the run has; it's for computeds that keep one. NoMemory where no further name of
-    /// the list can be counted.
-    pub fn shared_sources(&self) -> Result<IdList, NoMemory>
-        requires { is_some self.now.memo ≡ true }
-        ensures { IfOk result (λ l. l.items ≡ source_names (sources_in self.now.memo)) }
-    {
-        match &self.memo {
-            Some(memo) => memo.shared_sources(),
-            None => unreachable!(),
         }
     }
 
@@ -405,32 +430,36 @@ impl Computation {
         self.memo = Some(memo);
     }
 
-    /// Whether it keeps a run.
-    pub fn has_run(&self) -> bool
-        ensures { result ≡ is_some self.now.memo }
-    {
-        match &self.memo {
-            Some(_) => true,
-            None => false,
-        }
-    }
-
-    /// Keeps a run that read what the kept one did, by the numbers now, which ends the evaluation.
+    /// Keeps a run that read exactly what the kept one did, by the numbers now, which ends the evaluation; its own number rises where the
+    /// outcome is another. It gives the list of what was read, none where something else was: then nothing changes, and so it is without
+    /// memory. What is kept, the number and the list are told apart, and so is what leaves them as they are.
     pub(crate) fn keep_again(
         &mut self,
-        outcome: &mut Outcome,
+        number: &mut u128,
+        outcome: &Outcome,
+        reads: &[NodeId],
         numbers: &mut Vec<Option<u128>>,
         generation: u128,
-    )
-        requires kept { is_some self.old.memo ≡ true }
-        requires numbers { length numbers.old.items ≡ length (sources_in self.old.memo) }
-        ensures { self.new ≡ record self.old { memo = Some (renewed self.old.memo outcome.old numbers.old.items generation); known = None } }
+    ) -> Result<Option<IdList>, NoMemory>
+        requires numbers { length numbers.old.items ≡ length reads.now }
+        requires worn { number.old + 1 < 2 ^ 128 }
+        ensures list { IfOk result (λ o. IfSome o (λ l. l.items ≡ reads.now)) }
+        ensures same { IfOk result (λ o. IfSome o (λ l. source_names (sources_in self.old.memo) ≡ reads.now)) }
+        ensures kept { IfOk result (λ o. IfSome o (λ l.
+            self.new ≡ record self.old { memo = Some (renewed self.old.memo outcome.now numbers.old.items generation); known = None })) }
+        ensures number { IfOk result (λ o. IfSome o (λ l. number.new ≡ number.old + (if has_outcome self.old.memo outcome.now then 0 else 1))) }
+        ensures other { IfOk result (λ o. IfNone o ((self.new ≡ self.old) × (number.new ≡ number.old))) }
+        ensures err { OnErr result ((self.new ≡ self.old) × (number.new ≡ number.old)) }
     {
-        self.computing = false;
-        match &mut self.memo {
-            Some(memo) => memo.renew(outcome, numbers, generation),
-            None => unreachable!(),
+        let Some(memo) = &mut self.memo else {
+            return Ok(None);
+        };
+        if !memo.has_read(reads) {
+            return Ok(None);
         }
+        let list = memo.renew(number, outcome, numbers, generation)?;
+        self.computing = false;
+        Ok(Some(list))
     }
 
     /// Gives another recipe.

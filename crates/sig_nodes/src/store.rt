@@ -1,12 +1,13 @@
 // Edits of the nodes of a graph.
-ghost use Rattle.std.specs.Prelude.{◌≡◌, ℕ, ◌+◌, ◌<◌, ◌^◌, ◌++◌, ◌∷◌, [], List, length, take, true, false, None, Some, IfOk, IfSome, OnOk, is_some, slice_get};
+ghost use Rattle.std.specs.Prelude.{◌≡◌, ℕ, ◌+◌, ◌<◌, ◌^◌, ◌++◌, ◌∷◌, [], List, length, take, true, false, None, Some, IfOk, IfSome, IfNone, OnErr, OnOk, is_some, slice_get};
 ghost use Rattle.std.specs.Option.{option_copied};
-ghost use Rattle.signal_model.specs.Memos.{is_stale_by, sources_in};
+ghost use Rattle.signal_model.specs.Memos.{is_stale_by, source_names, sources_in};
 ghost use Rattle.sig_nodes.specs.Computations.{GoesOn, at_generation, recipe_made, renewed};
 ghost use Rattle.sig_nodes.specs.Answers.{expression_of, IsAnswerHere, IsJudgedAnswer};
 ghost use Rattle.sig_nodes.specs.Nodes.{body_at, change_at, changed_at, is_cell_body, is_computed_body, known_body, known_node, memo_body, rewired_node, run_node, set_node, slots_body, stands_of, value_body};
 
 use crate::answers::{Asked, Recipe};
+use crate::id_lists::IdList;
 use crate::node::{Body, Memo, Node};
 use crate::nodes::Nodes;
 use sig_base::{Known, NoMemory, NodeId, Outcome, Value};
@@ -63,43 +64,57 @@ pub fn keep_memo_at(nodes: &mut Nodes, id: NodeId, memo: Memo)
     keep_memo(nodes.node_mut(id), memo);
 }
 
-// Keeps a run of a computed's node that read what the kept one did.
+// Keeps a run of a computed's node that read exactly what the kept one did, and gives the list of it, none where it read something else. What
+// is kept, what that needs of the run before and the list are told apart, and so is what leaves the node as it is.
 fn renew_memo(
     node: &mut Node,
-    outcome: &mut Outcome,
+    outcome: &Outcome,
+    reads: &[NodeId],
     numbers: &mut Vec<Option<u128>>,
     generation: u128,
-)
-    requires kept { is_some (memo_body node.old.body) ≡ true }
-    requires numbers { length numbers.old.items ≡ length (sources_in (memo_body node.old.body)) }
+) -> Result<Option<IdList>, NoMemory>
+    requires numbers { length numbers.old.items ≡ length reads.now }
     requires worn { node.old.number + 1 < 2 ^ 128 }
-    ensures { node.new ≡ run_node (renewed (memo_body node.old.body) outcome.old numbers.old.items generation) node.old }
+    ensures list { IfOk result (λ o. IfSome o (λ l. l.items ≡ reads.now)) }
+    ensures same { IfOk result (λ o. IfSome o (λ l. source_names (sources_in (memo_body node.old.body)) ≡ reads.now)) }
+    ensures kept { IfOk result (λ o. IfSome o (λ l.
+        node.new ≡ run_node (renewed (memo_body node.old.body) outcome.now numbers.old.items generation) node.old)) }
+    ensures other { IfOk result (λ o. IfNone o (node.new ≡ node.old)) }
+    ensures err { OnErr result (node.new ≡ node.old) }
 {
     match &mut node.body {
         Body::Computed(computation) => {
-            if !computation.has_outcome(outcome) {
-                node.number += 1;
-            }
-            computation.keep_again(outcome, numbers, generation)
+            let number = &mut node.number;
+            let list = computation.keep_again(number, outcome, reads, numbers, generation)?;
+            Ok(list)
         }
-        _ => unreachable!(),
+        _ => Ok(None),
     }
 }
 
-/// Keeps a run of a computed that read what the kept one did, by the numbers now, which ends its evaluation.
+/// Keeps a run of a computed that read exactly what the kept one did, by the numbers now, which ends its evaluation, and gives the list of
+/// what it read: none where the kept one read something else; then nothing changes, and so it is without memory. What is kept, what that
+/// needs of the run before and the list are told apart.
 pub fn renew_memo_at(
     nodes: &mut Nodes,
     id: NodeId,
-    outcome: &mut Outcome,
+    outcome: &Outcome,
+    reads: &[NodeId],
     numbers: &mut Vec<Option<u128>>,
     generation: u128,
-)
-    requires kept { is_some (memo_body (body_at nodes.old.items id)) ≡ true }
-    requires numbers { length numbers.old.items ≡ length (sources_in (memo_body (body_at nodes.old.items id))) }
+) -> Result<Option<IdList>, NoMemory>
+    requires live { is_computed_body (body_at nodes.old.items id) ≡ true }
+    requires numbers { length numbers.old.items ≡ length reads.now }
     requires worn { change_at nodes.old.items id + 1 < 2 ^ 128 }
-    ensures { nodes.new.items ≡ changed_at (run_node (renewed (memo_body (body_at nodes.old.items id)) outcome.old numbers.old.items generation)) id nodes.old.items }
+    ensures list { IfOk result (λ o. IfSome o (λ l. l.items ≡ reads.now)) }
+    ensures same { IfOk result (λ o. IfSome o (λ l. source_names (sources_in (memo_body (body_at nodes.old.items id))) ≡ reads.now)) }
+    ensures kept { IfOk result (λ o. IfSome o (λ l.
+        nodes.new.items ≡ changed_at (run_node (renewed (memo_body (body_at nodes.old.items id)) outcome.now numbers.old.items generation)) id nodes.old.items)) }
+    ensures other { IfOk result (λ o. IfNone o (nodes.new.items ≡ nodes.old.items)) }
+    ensures err { OnErr result (nodes.new.items ≡ nodes.old.items) }
 {
-    renew_memo(nodes.node_mut(id), outcome, numbers, generation);
+    let list = renew_memo(nodes.node_mut(id), outcome, reads, numbers, generation)?;
+    Ok(list)
 }
 
 // Gives a computed's node another recipe.

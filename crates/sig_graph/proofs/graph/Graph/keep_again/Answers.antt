@@ -1,16 +1,17 @@
-use Rattle.std.proofs.Common.{◌+◌, ◌<◌, refl, ℕ, List, is_some, length, map, sym, ap, ◌∙◌, subst}
+use Rattle.std.proofs.Common.{◌≡◌, ◌+◌, ◌<◌, refl, ℕ, List, is_some, length, map, sym, ap, ◌∙◌, subst}
 use Rattle.std.specs.List.{All}
-use Rattle.signal_model.specs.Memos.{Memo, memo_of, named_now, source_names, sources_in, sources_of}
+use Rattle.std.proofs.lemmas.List.{length-map}
+use Rattle.signal_model.specs.Memos.{Memo, named_now, source_names, sources_in}
 use Rattle.mark_laws.specs.Marked.{ended}
 use Rattle.sig_marks.specs.Tables.{marked_at}
 use Rattle.sig_nodes.specs.declared.node.Node.{Node}
-use Rattle.sig_nodes.specs.Computations.{paired}
+use Rattle.sig_nodes.specs.Computations.{paired, renewed}
 use Rattle.sig_graph.specs.States.{Seen, is_computing, with_kept_run}
 use Rattle.sig_graph.specs.Places.{NodesAgree, KeepsMarks}
 use Rattle.sig_nodes.specs.Nodes.{body_at, changed_at, memo_body, number_at, run_node}
 use Rattle.sig_graph.specs.Parts.{memos_of, state_of}
-use Rattle.sig_graph.proofs.Parts.{memo_found, progress_found}
-use Rattle.sig_nodes.proofs.Shared.{changed_length, memo_made, computed_live, numbers_length}
+use Rattle.sig_graph.proofs.Parts.{progress_found}
+use Rattle.sig_nodes.proofs.Shared.{changed_length, memo_made, computed_live}
 use Rattle.sig_graph.proofs.StateEdits.{run_state}
 use Rattle.sig_graph.proofs.Consistency.{became, computed_below, computing_here, given_below, run_holds}
 use Rattle.sig_graph.proofs.KeptFinds.{raised_kept}
@@ -18,15 +19,12 @@ use Rattle.sig_graph.proofs.KeptMarks.{linked_here, links_same, run_is, run_kept
 use Rattle.sig_graph.proofs.Lookups.{names_now, paired_here}
 use Rattle.sig_graph.proofs.graph.Graph.keep_again.Goals as goal
 
-pub renew_memo_at-requires-clause-kept : goal.renew_memo_at-requires-clause-kept
-renew_memo_at-requires-clause-kept c =
-    sym (ap is_some (memo_found c.self.inside.nodes.items c.self.inside.generation c.args.id)) ∙ ap (λ (s : Seen). is_some (memo_of s.state.memos c.args.id)) c.self.view_is ∙ c.requires.kept
+pub renew_memo_at-requires-clause-live : goal.renew_memo_at-requires-clause-live
+renew_memo_at-requires-clause-live c =
+    computing_here (body_at c.self.inside.nodes.items c.args.id) (sym (ap is_some (progress_found c.self.inside.nodes.items c.args.id)) ∙ ap (λ (s : Seen). is_computing s.state c.args.id) c.self.view_is ∙ c.requires.computing)
 
 pub renew_memo_at-requires-clause-numbers : goal.renew_memo_at-requires-clause-numbers
-renew_memo_at-requires-clause-numbers c =
-    let xs = c.self.inside.nodes.items in
-    let names = sym (ap (λ m. source_names (sources_in m)) (memo_found xs c.self.inside.generation c.args.id)) ∙ ap (λ (s : Seen). source_names (sources_of s.state.memos c.args.id)) c.self.view_is ∙ c.requires.same in
-    numbers_length (number_at xs) (sources_in (memo_body (body_at xs c.args.id))) c.args.reads.now c.numbers_now.new.numbers.items names c.in_ok-numbers_now.ensures
+renew_memo_at-requires-clause-numbers c = ap length c.in_ok-numbers_now.ensures ∙ length-map c.args.reads.now (number_at c.self.inside.nodes.items)
 
 pub end_mark-requires-clause-stands : goal.end_mark-requires-clause-stands
 end_mark-requires-clause-stands c =
@@ -44,12 +42,14 @@ invariant_of-self-2 c =
     let g = c.self.inside.generation in
     let t = c.self.inside.marks in
     let o = c.args.outcome.now in
+    let ys = c.renew_memo_at.new.nodes.items in
     let rs = c.args.reads.now in
-    let names = sym (ap (λ m. source_names (sources_in m)) (memo_found xs g c.args.id)) ∙ ap (λ (s : Seen). source_names (sources_of s.state.memos c.args.id)) c.self.view_is ∙ c.requires.same in
+    let names : source_names (sources_in (memo_body (body_at xs c.args.id))) ≡ rs = rw c.in-Some.is at c.in_ok-list.ensures.same in
     let numbers = c.in_ok-numbers_now.ensures in
     let memo = ap (λ ss. memo_made o ss g) ((λ i. paired (names i) (numbers i)) ∙ paired_here xs g rs) in
     let made = memo_made o (map (named_now (memos_of g xs)) rs) g in
-    let nodes = c.renew_memo_at.ensures ∙ ap (λ (m : Memo). changed_at (run_node m) c.args.id xs) memo in
+    let changed : ys ≡ changed_at (run_node (renewed (memo_body (body_at xs c.args.id)) o c.numbers_now.new.numbers.items g)) c.args.id xs = rw c.in-Some.is at c.in_ok-list.ensures.kept in
+    let nodes = changed ∙ ap (λ (m : Memo). changed_at (run_node m) c.args.id xs) memo in
     let given = given_below c.args.self.now (state_of xs c.self.inside.generation c.self.inside.looked c.self.inside.worn) c.self.inside.seats.holders (length xs) rs c.self.view_is c.requires.given in
     let named = subst (λ (ns : List ℕ). All (λ m. m < length xs) ns) (sym (names_now (memos_of g xs) rs)) given in
     let on = sym (ap is_some (progress_found c.self.inside.nodes.items c.args.id)) ∙ ap (λ (s : Seen). is_computing s.state c.args.id) c.self.view_is ∙ c.requires.computing in
@@ -71,16 +71,15 @@ returns-clause-after c =
     let g = c.self.inside.generation in
     let l = c.self.inside.looked in
     let w = c.self.inside.worn in
+    let o = c.args.outcome.now in
     let rs = c.args.reads.now in
     let live = computing_here (body_at c.self.inside.nodes.items c.args.id) (sym (ap is_some (progress_found c.self.inside.nodes.items c.args.id)) ∙ ap (λ (s : Seen). is_computing s.state c.args.id) c.self.view_is ∙ c.requires.computing) in
-    let names = sym (ap (λ m. source_names (sources_in m)) (memo_found xs g c.args.id)) ∙ ap (λ (s : Seen). source_names (sources_of s.state.memos c.args.id)) c.self.view_is ∙ c.requires.same in
+    let names : source_names (sources_in (memo_body (body_at xs c.args.id))) ≡ rs = rw c.in-Some.is at c.in_ok-list.ensures.same in
     let numbers = c.in_ok-numbers_now.ensures in
     let memo = ap (λ ss. memo_made c.args.outcome.now ss g) ((λ i. paired (names i) (numbers i)) ∙ paired_here xs g rs) in
     let made = memo_made c.args.outcome.now (map (named_now (memos_of g xs)) rs) g in
-    let nodes = c.renew_memo_at.ensures ∙ ap (λ (m : Memo). changed_at (run_node m) c.args.id xs) memo in
+    let changed : ys ≡ changed_at (run_node (renewed (memo_body (body_at xs c.args.id)) o c.numbers_now.new.numbers.items g)) c.args.id xs = rw c.in-Some.is at c.in_ok-list.ensures.kept in
+    let nodes = changed ∙ ap (λ (m : Memo). changed_at (run_node m) c.args.id xs) memo in
     let len = ap length nodes ∙ changed_length (run_node made) c.args.id xs in
     became c.args.self.now (state_of xs g l w) (state_of ys g l (w + 1)) (with_kept_run c.args.self.now.state c.args.id c.args.outcome.now rs) c.self.inside.seats.holders c.self.inside.seats.holders (length xs) (length ys) c.self.view_is len
     (ap (λ zs. state_of zs g l (w + 1)) nodes ∙ run_state xs c.args.id c.args.outcome.now rs g l w live ∙ ap (λ (s : Seen). with_kept_run s.state c.args.id c.args.outcome.now rs) c.self.view_is)
-
-pub returns-clause-seats : goal.returns-clause-seats
-returns-clause-seats c = ap (λ (s : Seen). s.seats) c.self.view_is

@@ -17,5 +17,5 @@ pub returns-clause-after : goal.returns-clause-after
 returns-clause-after c =
     let same = ap (λ (l : Listed). l.items) (c.in_ok-kept.ensures ∙ c.in_ok-list.ensures) ∙ c.in_ok-ids.ensures in
     let old = c.args.self.now in
-    subst (λ (o : Outcome). Becomes old c.keep_list.new.self (with_kept_run old.state c.args.id o c.args.reads.now)) c.replace-outcome.ensures.value
-    (subst (λ (ns : List ℕ). Becomes old c.keep_list.new.self (with_kept_run old.state c.args.id c.replace-outcome.result ns)) same c.in_ok-keep_list.ensures.after)
+    subst (λ (o : Outcome). Becomes old c.keep_list.new.self (with_kept_run old.state c.args.id o c.args.reads.now)) c.in_ok-same.ensures
+    (subst (λ (ns : List ℕ). Becomes old c.keep_list.new.self (with_kept_run old.state c.args.id c.in_ok-same.same ns)) same c.in_ok-keep_list.ensures.after)
