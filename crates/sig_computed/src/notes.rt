@@ -11,6 +11,7 @@ pub struct RunNote {
 }
 
 impl Drop for RunNote {
+    #[inline(always)]
     fn drop(self) {
         let RunNote {
             id: _,

@@ -1,15 +1,15 @@
 // Which marks go at the end of an evaluation.
-ghost use Rattle.std.specs.Prelude.{◌≡◌, ℕ, ◌<◌, ◌&&◌, not, [], length, true, false};
+ghost use Rattle.std.specs.Prelude.{◌≡◌, ℕ, ◌<◌, ◌&&◌, ◌||◌, ◌++◌, ◌∷◌, not, [], length, map, true, false, IfOk, OnOk};
 ghost use Rattle.signal_model.specs.Memos.{is_cycle};
 ghost use Rattle.mark_laws.specs.Marked.{ended};
 ghost use Rattle.sig_marks.specs.Tables.{marked_at, stands_at};
-ghost use Rattle.sig_nodes.specs.Nodes.{body_at, is_computed_body, memo_body};
+ghost use Rattle.sig_nodes.specs.Nodes.{body_at, is_computed_body, memo_body, number_at};
 ghost use Rattle.sig_graph.specs.Search.{some_marked_at, stop_unmarks_by};
 
 use crate::marks::must_run;
-use sig_base::{NodeId, Outcome};
+use sig_base::{NoMemory, NodeId, Outcome};
 use sig_marks::Marks;
-use sig_nodes::{Computation, Nodes, computation_at, is_cycle};
+use sig_nodes::{Computation, Nodes, computation_at, is_cycle, read_at};
 
 // Whether a marked computed stands at a place.
 fn is_marked_at(nodes: &Nodes, marks: &Marks, id: NodeId) -> bool
@@ -36,11 +36,55 @@ fn some_marked(nodes: &Nodes, marks: &Marks, ids: &[NodeId]) -> bool
     false
 }
 
-/// Whether a run takes the mark of its computed: it came to an outcome other than `cycle`, and read no marked computed.
-pub(crate) fn run_unmarks(nodes: &Nodes, marks: &Marks, outcome: &Outcome, reads: &[NodeId]) -> bool
-    ensures { result ≡ (not (is_cycle outcome.now) && not (some_marked_at nodes.now.items marks.now.marked reads.now)) }
+// Puts the change number of a signal behind others, none where it is gone, and tells whether a marked computed stands there.
+#[inline(always)]
+fn look_at(
+    numbers: &mut Vec<Option<u128>>,
+    nodes: &Nodes,
+    marks: &Marks,
+    id: NodeId,
+) -> Result<bool, NoMemory>
+    ensures number { OnOk result (numbers.new.items ≡ numbers.old.items ++ number_at nodes.now.items id ∷ []) }
+    ensures marked { IfOk result (λ m. m ≡ (is_computed_body (body_at nodes.now.items id) && marked_at marks.now.marked id)) }
 {
-    !is_cycle(outcome) && !some_marked(nodes, marks, reads)
+    let (number, computed) = read_at(nodes, id);
+    numbers.push(number)?;
+    Ok(computed && marks.is_marked(id))
+}
+
+// Whether one of two holds. Both are known, so that it takes no branch.
+fn either(one: bool, other: bool) -> bool
+    ensures { result ≡ (one || other) }
+{
+    one || other
+}
+
+/// Puts the present change numbers of these in place of what stood in a list, and tells whether a marked computed stands at one of them.
+#[inline(always)]
+pub(crate) fn look_over(
+    numbers: &mut Vec<Option<u128>>,
+    nodes: &Nodes,
+    marks: &Marks,
+    ids: &[NodeId],
+) -> Result<bool, NoMemory>
+    ensures numbers { OnOk result (numbers.new.items ≡ map (number_at nodes.now.items) ids.now) }
+    ensures marked { IfOk result (λ m. m ≡ some_marked_at nodes.now.items marks.now.marked ids.now) }
+{
+    numbers.clear();
+    numbers.reserve_exact(ids.len())?;
+    let mut marked = false;
+    for id in ids {
+        let here = look_at(numbers, nodes, marks, *id)?;
+        marked = either(marked, here);
+    }
+    Ok(marked)
+}
+
+/// Whether a run takes the mark of its computed: it came to an outcome other than `cycle`, and read no marked computed.
+pub(crate) fn run_unmarks(outcome: &Outcome, marked: bool) -> bool
+    ensures { result ≡ (not (is_cycle outcome.now) && not marked) }
+{
+    !is_cycle(outcome) && !marked
 }
 
 // Whether an end without a run takes the mark of a computed.

@@ -10,14 +10,14 @@ ghost use Rattle.sig_nodes.specs.Answers.{slots_here, IsAnswerHere, IsJudgedAnsw
 ghost use Rattle.sig_graph.specs.States.{counted, is_computing, is_given, progress_at, with_kept_run, with_look, with_progress, Becomes, CanWear};
 ghost use Rattle.sig_nodes.specs.Computations.{GoesOn};
 
-use crate::end_marks::{end_mark, run_unmarks, stop_unmarks};
+use crate::end_marks::{end_mark, look_over, run_unmarks, stop_unmarks};
 use crate::graph::Graph;
 use crate::links::{copied, relink};
 use crate::reading::read_slots;
 use sig_base::{Known, NoMemory, NodeId, Outcome};
 use sig_nodes::{
     Asked, IdList, Memo, ask_at, begin_at, compared_at, computation_at, end_at, keep_memo_at,
-    numbers_now, renew_memo_at,
+    renew_memo_at,
 };
 
 /// One counted step more.
@@ -174,9 +174,9 @@ impl Graph {
         let _count = self.nodes.made();
         let ids = reads.as_slice();
         let mut numbers = Vec::new(self.alloc);
-        numbers_now(&mut numbers, &self.nodes, ids)?;
+        let marked = look_over(&mut numbers, &self.nodes, &self.marks, ids)?;
         relink(&self.nodes, &mut self.marks, id, ids)?;
-        let unmarks = run_unmarks(&self.nodes, &self.marks, &outcome, ids);
+        let unmarks = run_unmarks(&outcome, marked);
         end_mark(&mut self.marks, id, unmarks);
         self.worn += 1;
         let memo = Memo::new(outcome, reads, numbers, self.generation);
@@ -220,8 +220,7 @@ impl Graph {
         ensures other { IfOk result (λ o. IfNone o (self.new ≡ self.old)) }
     {
         let _count = self.nodes.made();
-        numbers_now(&mut self.room, &self.nodes, reads)?;
-        let unmarks = run_unmarks(&self.nodes, &self.marks, outcome, reads);
+        let marked = look_over(&mut self.room, &self.nodes, &self.marks, reads)?;
         let Some(list) = renew_memo_at(
             &mut self.nodes,
             id,
@@ -233,6 +232,7 @@ impl Graph {
         else {
             return Ok(None);
         };
+        let unmarks = run_unmarks(outcome, marked);
         end_mark(&mut self.marks, id, unmarks);
         self.worn += 1;
         Ok(Some(list))

@@ -1,7 +1,7 @@
 -- Sources from their names and their numbers.
-use Rattle.std.proofs.Common.{◌≡◌, Bool, true, false, take, if◌then◌else◌, ℕ, zero, suc, ◌+◌, ◌<◌, ◌≤◌, List, [], ◌∷◌, ◌++◌, append_assoc, drop, length, map, Option, Some, None, refl, sym, ap, ◌∙◌, arith}
+use Rattle.std.proofs.Common.{◌≡◌, Bool, true, false, take, if◌then◌else◌, ℕ, zero, suc, ◌+◌, ◌<◌, ◌≤◌, List, [], ◌∷◌, ◌++◌, append_assoc, drop, length, Option, Some, None, refl, sym, ap, ◌∙◌, arith}
 use Rattle.std.specs.Prelude.{slice_get, slice_index_or}
-use Rattle.signal_model.specs.Memos.{Source, source_names}
+use Rattle.signal_model.specs.Memos.{source_names}
 use Rattle.sig_base.specs.declared.value.Known.{Known}
 use Rattle.sig_nodes.specs.Computations.{GoesOn, paired}
 
@@ -32,14 +32,6 @@ pub paired_length : (ns : List ℕ) (ms : List (Option ℕ)) → length ns ≡ l
 paired_length [] ms h = refl
 paired_length (n ∷ ns) [] h = absurd (omega arith)
 paired_length (n ∷ ns) (m ∷ ms) h = let l : length ns ≡ length ms = omega arith in ap suc (paired_length ns ms l)
-
--- numbers of the names of sources are as many as these
-pub numbers_length : (f : ℕ → Option ℕ) (ss : List Source) (rs : List ℕ) (ms : List (Option ℕ)) → source_names ss ≡ rs → ms ≡ map f rs → length ms ≡ length ss
-numbers_length f ss rs ms names numbers = ap length (numbers ∙ sym (ap (map f) names)) ∙ go ss
-  where
-    go : (zs : List Source) → length (map f (source_names zs)) ≡ length zs
-    go [] = refl
-    go (z ∷ zs) = ap suc (go zs)
 
 -- one element more is moved behind a list
 pub moved_one : {A : Type 0} (held rest all : List A) (i : ℕ) (x y : A) → i < length rest → y ≡ x → x ≡ slice_index_or rest i x → held ++ drop i rest ≡ all → (held ++ y ∷ []) ++ drop (i + 1) rest ≡ all

@@ -1,5 +1,5 @@
 // What the nodes of a graph answer about the signal at one place. Past the last place nothing lives.
-ghost use Rattle.std.specs.Prelude.{◌≡◌, ◌<◌, ◌∷◌, ◌||◌, ◌&&◌, not, map, is_some, true, false, None, Some, IfOk, IfSome, IfNone, OnOk, slice_get};
+ghost use Rattle.std.specs.Prelude.{◌≡◌, ◌<◌, ◌∷◌, ◌||◌, ◌&&◌, not, is_some, true, false, None, Some, IfOk, IfSome, IfNone, slice_get};
 ghost use Rattle.std.specs.Option.{option_copied};
 ghost use Rattle.signal_model.specs.Signals.{is_computed};
 ghost use Rattle.signal_model.specs.Memos.{memo_is_cycle, same_number, source_names, sources_in};
@@ -255,21 +255,16 @@ fn number_of(node: &Node) -> Option<u128>
     }
 }
 
-/// The present change numbers of these, in place of what stood in a list.
+/// The change number of a signal, none where it is gone, and whether it is a computed.
 #[inline(always)]
-pub fn numbers_now(
-    numbers: &mut Vec<Option<u128>>,
-    nodes: &Nodes,
-    ids: &[NodeId],
-) -> Result<(), NoMemory>
-    ensures { OnOk result (numbers.new.items ≡ map (number_at nodes.now.items) ids.now) }
+pub fn read_at(nodes: &Nodes, id: NodeId) -> (Option<u128>, bool)
+    ensures number { result.0 ≡ number_at nodes.now.items id }
+    ensures computed { result.1 ≡ is_computed_body (body_at nodes.now.items id) }
 {
-    numbers.clear();
-    numbers.reserve_exact(ids.len())?;
-    for id in ids {
-        numbers.push(number_at(nodes, *id))?;
+    match nodes.at(id) {
+        Some(node) => (number_of(node), is_computed(&node.body)),
+        None => (None, false),
     }
-    Ok(())
 }
 
 fn same_number(a: Option<u128>, b: Option<u128>) -> bool

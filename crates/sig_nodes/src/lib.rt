@@ -11,8 +11,8 @@ mod store;
 pub use answers::{Asked, Mark, Recipe, Standing};
 pub use bodies::{
     asks_host_at, body_at, compared_at, computation_at, differs, host_at, is_computed,
-    is_linkable_at, is_live_at, kept_at, numbers_now, rule_at, seat_at, shown_at, slot_at,
-    slots_at, sources_at, standing_at, value_at,
+    is_linkable_at, is_live_at, kept_at, read_at, rule_at, seat_at, shown_at, slot_at, slots_at,
+    sources_at, standing_at, value_at,
 };
 pub use id_lists::IdList;
 pub use node::{Body, Computation, Memo, Node, Source, is_cycle};

@@ -1,7 +1,7 @@
-use Rattle.std.proofs.Common.{◌≡◌, ◌+◌, ◌<◌, refl, ℕ, List, is_some, length, map, sym, ap, ◌∙◌, subst}
+use Rattle.std.proofs.Common.{◌≡◌, ◌&&◌, not, ◌+◌, ◌<◌, refl, ℕ, List, is_some, length, map, sym, ap, ◌∙◌, subst}
 use Rattle.std.specs.List.{All}
 use Rattle.std.proofs.lemmas.List.{length-map}
-use Rattle.signal_model.specs.Memos.{Memo, named_now, source_names, sources_in}
+use Rattle.signal_model.specs.Memos.{Memo, is_cycle, named_now, source_names, sources_in}
 use Rattle.mark_laws.specs.Marked.{ended}
 use Rattle.sig_marks.specs.Tables.{marked_at}
 use Rattle.sig_nodes.specs.declared.node.Node.{Node}
@@ -24,7 +24,7 @@ renew_memo_at-requires-clause-live c =
     computing_here (body_at c.self.inside.nodes.items c.args.id) (sym (ap is_some (progress_found c.self.inside.nodes.items c.args.id)) ∙ ap (λ (s : Seen). is_computing s.state c.args.id) c.self.view_is ∙ c.requires.computing)
 
 pub renew_memo_at-requires-clause-numbers : goal.renew_memo_at-requires-clause-numbers
-renew_memo_at-requires-clause-numbers c = ap length c.in_ok-numbers_now.ensures ∙ length-map c.args.reads.now (number_at c.self.inside.nodes.items)
+renew_memo_at-requires-clause-numbers c = ap length c.in_ok-marked.ensures.numbers ∙ length-map c.args.reads.now (number_at c.self.inside.nodes.items)
 
 pub end_mark-requires-clause-stands : goal.end_mark-requires-clause-stands
 end_mark-requires-clause-stands c =
@@ -45,16 +45,16 @@ invariant_of-self-2 c =
     let ys = c.renew_memo_at.new.nodes.items in
     let rs = c.args.reads.now in
     let names : source_names (sources_in (memo_body (body_at xs c.args.id))) ≡ rs = rw c.in-Some.is at c.in_ok-list.ensures.same in
-    let numbers = c.in_ok-numbers_now.ensures in
+    let numbers = c.in_ok-marked.ensures.numbers in
     let memo = ap (λ ss. memo_made o ss g) ((λ i. paired (names i) (numbers i)) ∙ paired_here xs g rs) in
     let made = memo_made o (map (named_now (memos_of g xs)) rs) g in
-    let changed : ys ≡ changed_at (run_node (renewed (memo_body (body_at xs c.args.id)) o c.numbers_now.new.numbers.items g)) c.args.id xs = rw c.in-Some.is at c.in_ok-list.ensures.kept in
+    let changed : ys ≡ changed_at (run_node (renewed (memo_body (body_at xs c.args.id)) o c.look_over.new.numbers.items g)) c.args.id xs = rw c.in-Some.is at c.in_ok-list.ensures.kept in
     let nodes = changed ∙ ap (λ (m : Memo). changed_at (run_node m) c.args.id xs) memo in
     let given = given_below c.args.self.now (state_of xs c.self.inside.generation c.self.inside.looked c.self.inside.worn) c.self.inside.seats.holders (length xs) rs c.self.view_is c.requires.given in
     let named = subst (λ (ns : List ℕ). All (λ m. m < length xs) ns) (sym (names_now (memos_of g xs) rs)) given in
     let on = sym (ap is_some (progress_found c.self.inside.nodes.items c.args.id)) ∙ ap (λ (s : Seen). is_computing s.state c.args.id) c.self.view_is ∙ c.requires.computing in
     let link = links_same c.args.id xs t.dependants rs (linked_here c.args.id xs g t c.self.invariant.marks) names in
-    let unmarks = c.run_unmarks-unmarks.ensures ∙ run_is xs t.marked o rs in
+    let unmarks = c.run_unmarks-unmarks.ensures ∙ ap (λ b. not (is_cycle o) && not b) c.in_ok-marked.ensures.marked ∙ run_is xs t.marked o rs in
     let marks = run_kept o rs c.args.id xs g t t.dependants c.end_mark.new.marks.marked on link c.end_mark.ensures.size
     (λ m. c.end_mark.ensures.marks m ∙ (λ i. ended (marked_at t.marked) c.args.id (unmarks i) m)) c.self.invariant.marks in
     record {
@@ -75,10 +75,10 @@ returns-clause-after c =
     let rs = c.args.reads.now in
     let live = computing_here (body_at c.self.inside.nodes.items c.args.id) (sym (ap is_some (progress_found c.self.inside.nodes.items c.args.id)) ∙ ap (λ (s : Seen). is_computing s.state c.args.id) c.self.view_is ∙ c.requires.computing) in
     let names : source_names (sources_in (memo_body (body_at xs c.args.id))) ≡ rs = rw c.in-Some.is at c.in_ok-list.ensures.same in
-    let numbers = c.in_ok-numbers_now.ensures in
+    let numbers = c.in_ok-marked.ensures.numbers in
     let memo = ap (λ ss. memo_made c.args.outcome.now ss g) ((λ i. paired (names i) (numbers i)) ∙ paired_here xs g rs) in
     let made = memo_made c.args.outcome.now (map (named_now (memos_of g xs)) rs) g in
-    let changed : ys ≡ changed_at (run_node (renewed (memo_body (body_at xs c.args.id)) o c.numbers_now.new.numbers.items g)) c.args.id xs = rw c.in-Some.is at c.in_ok-list.ensures.kept in
+    let changed : ys ≡ changed_at (run_node (renewed (memo_body (body_at xs c.args.id)) o c.look_over.new.numbers.items g)) c.args.id xs = rw c.in-Some.is at c.in_ok-list.ensures.kept in
     let nodes = changed ∙ ap (λ (m : Memo). changed_at (run_node m) c.args.id xs) memo in
     let len = ap length nodes ∙ changed_length (run_node made) c.args.id xs in
     became c.args.self.now (state_of xs g l w) (state_of ys g l (w + 1)) (with_kept_run c.args.self.now.state c.args.id c.args.outcome.now rs) c.self.inside.seats.holders c.self.inside.seats.holders (length xs) (length ys) c.self.view_is len

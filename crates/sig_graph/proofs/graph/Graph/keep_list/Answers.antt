@@ -66,7 +66,7 @@ invariant_of-self-2 c =
     let t = c.self.inside.marks in
     let o = c.args.outcome in
     let rs = c.args.reads.items in
-    let numbers = c.in_ok-numbers_now.ensures ∙ ap (map (number_at xs)) c.as_slice-ids.ensures in
+    let numbers = c.in_ok-marked.ensures.numbers ∙ ap (map (number_at xs)) c.as_slice-ids.ensures in
     let sources = ap (paired rs) numbers ∙ paired_here xs g rs in
     let memo = c.new-memo.ensures ∙ ap (λ ss. memo_made o ss g) sources in
     let made = memo_made o (map (named_now (memos_of g xs)) rs) g in
@@ -75,7 +75,8 @@ invariant_of-self-2 c =
     let named = subst (λ (ns : List ℕ). All (λ m. m < length xs) ns) (sym (names_now (memos_of g xs) rs)) given in
     let on = sym (ap is_some (progress_found c.self.inside.nodes.items c.args.id)) ∙ ap (λ (s : Seen). is_computing s.state c.args.id) c.self.view_is ∙ c.requires.computing in
     let link = subst (λ (ns : List ℕ). LinksAnew xs t.dependants c.relink.new.marks.dependants c.args.id ns) c.as_slice-ids.ensures c.in_ok-relink.ensures.after in
-    let unmarks = c.run_unmarks-unmarks.ensures ∙ (λ i. not (is_cycle o) && not (some_marked_at xs (c.relink.ensures.marks i) (c.as_slice-ids.ensures i))) ∙ run_is xs t.marked o rs in
+    let unmarks = c.run_unmarks-unmarks.ensures ∙ (λ i. not (is_cycle o) && not (c.in_ok-marked.ensures.marked i))
+    ∙ (λ i. not (is_cycle o) && not (some_marked_at xs t.marked (c.as_slice-ids.ensures i))) ∙ run_is xs t.marked o rs in
     let size = c.end_mark.ensures.size ∙ ap (λ (us : List Bool). length us) c.relink.ensures.marks in
     let marks = run_kept o rs c.args.id xs g t c.relink.new.marks.dependants c.end_mark.new.marks.marked on link size
     (λ m. c.end_mark.ensures.marks m ∙ (λ i. ended (marked_at (c.relink.ensures.marks i)) c.args.id (unmarks i) m)) c.self.invariant.marks in
@@ -94,7 +95,7 @@ returns-clause-after c =
     let l = c.self.inside.looked in
     let w = c.self.inside.worn in
     let live = computing_here (body_at c.self.inside.nodes.items c.args.id) (sym (ap is_some (progress_found c.self.inside.nodes.items c.args.id)) ∙ ap (λ (s : Seen). is_computing s.state c.args.id) c.self.view_is ∙ c.requires.computing) in
-    let numbers = c.in_ok-numbers_now.ensures ∙ ap (map (number_at xs)) c.as_slice-ids.ensures in
+    let numbers = c.in_ok-marked.ensures.numbers ∙ ap (map (number_at xs)) c.as_slice-ids.ensures in
     let sources = ap (paired c.args.reads.items) numbers ∙ paired_here xs g c.args.reads.items in
     let memo = c.new-memo.ensures ∙ ap (λ ss. memo_made c.args.outcome ss g) sources in
     let made = memo_made c.args.outcome (map (named_now (memos_of g xs)) c.args.reads.items) g in

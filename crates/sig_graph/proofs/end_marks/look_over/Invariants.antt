@@ -1,0 +1,10 @@
+use Rattle.std.proofs.Common.{◌≡◌, ◌||◌, drop, map, take}
+use Rattle.sig_nodes.specs.Nodes.{number_at}
+use Rattle.sig_graph.specs.Search.{some_marked_at}
+use Rattle.sig_graph.proofs.end_marks.look_over.Given as goal
+
+abbrev pub invariant-loop-id : goal.invariant-loop-id
+invariant-loop-id l = record {
+  numbers : l.numbers.items ≡ map (number_at l.nodes.items) (take l.id-index l.ids);
+  marked : (l.marked || some_marked_at l.nodes.items l.marks.marked (drop l.id-index l.ids)) ≡ some_marked_at l.nodes.items l.marks.marked l.ids;
+}
