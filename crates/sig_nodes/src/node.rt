@@ -1,5 +1,5 @@
 // One signal's node.
-ghost use Rattle.std.specs.Prelude.{◌≡◌, ℕ, ◌+◌, ◌<◌, ◌^◌, ◌++◌, ◌∷◌, [], List, Option, length, take, true, false, None, Some, IfOk, IfSome, IfNone, OnErr, OnOk, is_some, slice_get, if◌then◌else◌};
+ghost use Rattle.std.specs.Prelude.{◌≡◌, ℕ, ◌+◌, ◌<◌, ◌^◌, ◌++◌, ◌∷◌, ◌↔◌, [], List, Option, length, take, true, false, None, Some, IfOk, IfSome, IfNone, IsTrue, OnErr, OnOk, is_some, slice_get, if◌then◌else◌};
 ghost use Rattle.std.specs.Option.{option_copied};
 ghost use Rattle.sig_base.specs.Values.{same_outcome};
 ghost use Rattle.signal_model.specs.Recipes.{Hosts};
@@ -178,6 +178,18 @@ fn are_same(ids: &[NodeId], others: &[NodeId]) -> bool
     ids == others
 }
 
+// Whether two outcomes are the same. Most are whole numbers, which are compared at once.
+#[inline(always)]
+fn is_same(outcome: &Outcome, other: &Outcome) -> bool
+    ensures value { result ≡ same_outcome outcome.now other.now }
+    ensures exact { IsTrue result ↔ (outcome.now ≡ other.now) }
+{
+    match (outcome, other) {
+        (Outcome::Good(Value::Int(m)), Outcome::Good(Value::Int(n))) => m == n,
+        _ => outcome.same(other),
+    }
+}
+
 // Puts an outcome in place of another one, and raises a number by one, where the two aren't the same. Without memory nothing changes.
 fn put_outcome(held: &mut Outcome, number: &mut u128, outcome: &Outcome) -> Result<(), NoMemory>
     requires { number.old + 1 < 2 ^ 128 }
@@ -186,7 +198,7 @@ fn put_outcome(held: &mut Outcome, number: &mut u128, outcome: &Outcome) -> Resu
     ensures err { OnErr result (held.new ≡ held.old) }
     ensures err_number { OnErr result (number.new ≡ number.old) }
 {
-    if held.same(outcome) {
+    if is_same(held, outcome) {
         return Ok(());
     }
     *held = outcome.copy()?;
@@ -332,7 +344,7 @@ impl Computation {
         ensures { result ≡ has_outcome self.now.memo outcome.now }
     {
         match &self.memo {
-            Some(memo) => memo.outcome().same(outcome),
+            Some(memo) => is_same(memo.outcome(), outcome),
             None => false,
         }
     }
