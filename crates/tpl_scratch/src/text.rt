@@ -5,6 +5,7 @@ ghost use Rattle.sig_base.specs.Scalars.{shown_text};
 ghost use Rattle.sig_base.specs.Values.{shown};
 ghost use Rattle.tpl_model.specs.Shapes.{attribute_value, node_text};
 
+use itoa::Buffer;
 use sig_base::{Fault, NoMemory, Outcome, Scalar, Text, TextFault, Value};
 use std::alloc::Global;
 
@@ -23,8 +24,13 @@ fn shown_scalar(alloc: Global, scalar: Scalar) -> Result<Text, NoMemory>
     ensures { IfOk result (λ t. t ≡ shown_text scalar) }
 {
     match scalar {
+        Scalar::Bool(true) => text_of(alloc, "true"),
+        Scalar::Bool(false) => text_of(alloc, "false"),
+        Scalar::Int(number) => {
+            let mut buffer = Buffer::new();
+            text_of(alloc, buffer.format(number))
+        }
         Scalar::Text(text) => Ok(text),
-        other => text_of(alloc, other.to_string(alloc)?.as_str()),
     }
 }
 
