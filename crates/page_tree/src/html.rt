@@ -1,12 +1,13 @@
 // A tree as HTML.
 ghost use Rattle.std.specs.Prelude.{◌≡◌, ◌<◌, ◌∷◌, ◌++◌, [], ℕ, List, OnOk, codes};
 ghost use Rattle.std.specs.List.{flat_map};
-ghost use Rattle.html_out.specs.Html.{attribute, is_raw, is_void};
-ghost use Rattle.page_model.specs.Html.{characters, closing, element, html_in, opening};
+ghost use Rattle.html_out.specs.Html.{attribute, is_raw};
+ghost use Rattle.page_model.specs.Html.{closing, element, html_in, opening};
 ghost use Rattle.page_tree.specs.Rows.{build, look};
 
+use crate::element_name::ElementName;
 use crate::table::{Label, Node, find_near};
-use html_out::{is_raw, is_void, put_attr, put_bytes, put_text};
+use html_out::{put_attr, put_bytes};
 use indexmap::IndexMap;
 use sig_base::{NoMemory, Text};
 
@@ -22,32 +23,20 @@ fn put_attributes(out: &mut Vec<u8>, attributes: &[(Text, Text)]) -> Result<(), 
 fn put_opening(out: &mut Vec<u8>, name: &str, attributes: &[(Text, Text)]) -> Result<(), NoMemory>
     ensures { OnOk result (out.new.items ≡ out.old.items ++ opening name.now attributes.now) }
 {
-    out.push(b'<')?;
+    put_bytes(out, b"<")?;
     put_bytes(out, name.as_bytes())?;
     put_attributes(out, attributes)?;
-    out.push(b'>')?;
+    put_bytes(out, b">")?;
     Ok(())
 }
 
 fn put_closing(out: &mut Vec<u8>, name: &str) -> Result<(), NoMemory>
     ensures { OnOk result (out.new.items ≡ out.old.items ++ closing name.now) }
 {
-    out.push(b'<')?;
-    out.push(b'/')?;
+    put_bytes(out, b"</")?;
     put_bytes(out, name.as_bytes())?;
-    out.push(b'>')?;
+    put_bytes(out, b">")?;
     Ok(())
-}
-
-// A text, as it is or escaped.
-fn put_characters(out: &mut Vec<u8>, text: &str, raw: bool) -> Result<(), NoMemory>
-    ensures { OnOk result (out.new.items ≡ out.old.items ++ characters raw text.now) }
-{
-    if raw {
-        put_bytes(out, text.as_bytes())
-    } else {
-        put_text(out, text)
-    }
 }
 
 // An element around what stands below it, and the place beside which the next node is looked for first.
@@ -55,7 +44,7 @@ fn put_characters(out: &mut Vec<u8>, text: &str, raw: bool) -> Result<(), NoMemo
 fn write_element(
     out: &mut Vec<u8>,
     nodes: &IndexMap<u64, Node>,
-    name: &str,
+    name: &ElementName,
     attributes: &[(Text, Text)],
     children: &[u64],
     levels: u64,
@@ -64,12 +53,12 @@ fn write_element(
     ensures { OnOk result (out.new.items ≡
         out.old.items ++ element name.now attributes.now (html_in (is_raw name.now) (build levels (look nodes.now) children.now))) }
 {
-    put_opening(out, name, attributes)?;
-    if is_void(name) {
+    put_opening(out, name.as_str(), attributes)?;
+    if name.is_void() {
         return Ok(near);
     }
-    let next = write_nodes(out, nodes, children, is_raw(name), levels, near)?;
-    put_closing(out, name)?;
+    let next = write_nodes(out, nodes, children, name.is_raw(), levels, near)?;
+    put_closing(out, name.as_str())?;
     Ok(next)
 }
 
@@ -94,21 +83,13 @@ fn write_node(
     match &node.label {
         Label::Root => Ok(place),
         Label::Text(text) => {
-            put_characters(out, text.as_str(), raw)?;
+            text.write(out, raw)?;
             Ok(place)
         }
         Label::Element(name, attributes) => {
             let children = &node.children;
             let below = levels - 1;
-            let next = write_element(
-                out,
-                nodes,
-                name.as_str(),
-                attributes,
-                children,
-                below,
-                place,
-            )?;
+            let next = write_element(out, nodes, name, attributes, children, below, place)?;
             Ok(next)
         }
     }

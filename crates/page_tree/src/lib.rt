@@ -3,12 +3,15 @@
 #![tactic(auto)]
 
 mod ancestors;
+mod behind;
+mod element_name;
 mod html;
 mod moves;
 mod numbers;
 mod removal;
 mod sub;
 mod table;
+mod text_node;
 mod tree;
 
 pub use sub::Sub;

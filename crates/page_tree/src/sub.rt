@@ -5,7 +5,10 @@ ghost use Rattle.page_model.specs.Labels as label;
 ghost use Rattle.page_tree.specs.Rows.{label_of, numbered_row, row_with};
 ghost use Rattle.page_tree.specs.Subs.{rows_of, side_by_side, sub_tree, tree_number};
 
+use crate::behind::Behind;
+use crate::element_name::ElementName;
 use crate::table::{Label, Node};
+use crate::text_node::TextNode;
 use sig_base::{NoMemory, Text};
 use std::alloc::Global;
 
@@ -44,6 +47,7 @@ fn put_row(
             label,
             parent,
             children,
+            behind: Behind::new(),
         },
     ))?;
     Ok(())
@@ -68,7 +72,7 @@ fn element(alloc: Global, name: &Text, attributes: &[(Text, Text)]) -> Result<La
 {
     let name = name.copy()?;
     let attributes = copy_attributes(alloc, attributes)?;
-    Ok(Label::Element(name, attributes))
+    Ok(Label::Element(ElementName::new(name), attributes))
 }
 
 // The numbers of subtrees.
@@ -93,7 +97,7 @@ pub fn put_rows(
 {
     match sub {
         Sub::Text(number, text) => {
-            let label = Label::Text(text.copy()?);
+            let label = Label::Text(TextNode::new(text.copy()?));
             put_row(rows, *number, label, parent, Vec::new(alloc))?;
             Ok(())
         }

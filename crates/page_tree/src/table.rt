@@ -7,14 +7,17 @@ ghost use Rattle.page_model.specs.Replay.{others, put_in};
 ghost use Rattle.page_tree.specs.Queries as reading;
 ghost use Rattle.page_tree.specs.Rows.{Row, attributes_of, edited, label_of, look, row_of, with_attributes, with_children, with_label, written};
 
+use crate::behind::Behind;
+use crate::element_name::ElementName;
+use crate::text_node::TextNode;
 use indexmap::IndexMap;
 use sig_base::{NoMemory, Text};
 
 /// What a node is: the root, a text, or an element with its name and its attributes in order.
 pub enum Label {
     Root,
-    Text(Text),
-    Element(Text, Vec<(Text, Text)>),
+    Text(TextNode),
+    Element(ElementName, Vec<(Text, Text)>),
 }
 
 impl Drop for Label {
@@ -27,11 +30,12 @@ impl Drop for Label {
     }
 }
 
-/// What a node is and where it stands: under which parent, above which children.
+/// What a node is and where it stands: under which parent, above which children; and where the node is likely that is looked for behind it.
 pub struct Node {
     pub label: Label,
     pub parent: u64,
     pub children: Vec<u64>,
+    pub behind: Behind,
 }
 
 impl Drop for Node {
@@ -40,6 +44,7 @@ impl Drop for Node {
             label: _,
             parent: _,
             children: _,
+            behind: _,
         } = self;
     }
 }
@@ -138,22 +143,42 @@ fn node_at(nodes: &IndexMap<u64, Node>, place: usize, id: u64) -> Option<&Node>
     None
 }
 
-/// A node by its number, and its place in the table; it is looked for beside a place first: behind it, and before it, where what stood there was taken
-/// out and others came from the table's end.
-pub fn find_near(nodes: &IndexMap<u64, Node>, near: usize, id: u64) -> Option<(usize, &Node)>
+/// A node by its number, and its place in the table; it is looked for at a place first.
+pub fn find_at(nodes: &IndexMap<u64, Node>, place: usize, id: u64) -> Option<(usize, &Node)>
     ensures { option_map (λ p. p.1.now) result ≡ get nat_eq nodes.now id }
 {
-    let behind = near.wrapping_add(1);
-    if let Some(node) = node_at(nodes, behind, id) {
-        return Some((behind, node));
-    }
-    let before = near.wrapping_sub(1);
-    if let Some(node) = node_at(nodes, before, id) {
-        return Some((before, node));
+    if let Some(node) = node_at(nodes, place, id) {
+        return Some((place, node));
     }
     let Some((place, _, node)) = nodes.get_full(&id) else {
         return None;
     };
+    Some((place, node))
+}
+
+// The likely place of the node that is looked for behind the one at a place.
+fn place_behind(nodes: &IndexMap<u64, Node>, near: usize) -> usize {
+    match nodes.get_index(near) {
+        Some((_, node)) => node.behind.likely(near),
+        None => near,
+    }
+}
+
+// Notes where the node was found that was looked for behind the one at a place.
+fn note_behind(nodes: &IndexMap<u64, Node>, near: usize, place: usize) {
+    if let Some((_, node)) = nodes.get_index(near) {
+        node.behind.note(place);
+    }
+}
+
+/// A node by its number, and its place in the table; it is looked for first where one was found behind the one at a place before.
+pub fn find_near(nodes: &IndexMap<u64, Node>, near: usize, id: u64) -> Option<(usize, &Node)>
+    ensures { option_map (λ p. p.1.now) result ≡ get nat_eq nodes.now id }
+{
+    let Some((place, node)) = find_at(nodes, place_behind(nodes, near), id) else {
+        return None;
+    };
+    note_behind(nodes, near, place);
     Some((place, node))
 }
 

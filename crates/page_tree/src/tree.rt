@@ -1,8 +1,8 @@
 // A numbered tree, and what stands in it.
-ghost use Rattle.std.specs.Prelude.{◌≡◌, ◌++◌, [], ℕ, IfOk, MatchResult, OnOk, None, Some, true, ◌≤◌, IfSome, if◌then◌else◌, option_copied};
+ghost use Rattle.std.specs.Prelude.{◌≡◌, ◌++◌, [], ℕ, IfOk, MatchResult, OnOk, None, Some, true, ◌≤◌, IfSome, if◌then◌else◌, is_some, option_copied};
 ghost use Rattle.std.specs.List.{slice_get};
 ghost use Rattle.page_model.specs.Edits.{siblings};
-ghost use Rattle.page_model.specs.Forest.{keys, kids, label_in, node, none, parent};
+ghost use Rattle.page_model.specs.Forest.{keys, kids, label_in, node, none, on, parent};
 ghost use Rattle.page_model.specs.Html.{html_of};
 ghost use Rattle.page_model.specs.Labels.{Root};
 ghost use Rattle.page_model.specs.Replay as replay;
@@ -13,15 +13,16 @@ ghost use Rattle.page_tree.specs.Rows.{label_of, label_or_root, look, written};
 ghost use Rattle.page_tree.specs.Subs.{insertion, sub_tree};
 
 use crate::ancestors::climb;
+use crate::behind::Behind;
 use crate::html::write_nodes;
 use crate::moves::{insert_rows, move_node, remove_node};
 use crate::numbers::put_number;
 use crate::sub::{Sub, put_rows};
 use crate::table::{
-    Label, Node, add_row, place_in, place_named, set_attribute, set_label, unset_attribute,
-    value_named,
+    Label, Node, add_row, find_at, place_in, place_named, set_attribute, set_label,
+    unset_attribute, value_named,
 };
-use html_out::is_void;
+use crate::text_node::TextNode;
 use indexmap::IndexMap;
 use sig_base::{NoMemory, Text};
 use std::alloc::Global;
@@ -73,6 +74,7 @@ fn root_alone(alloc: Global) -> Result<IndexMap<u64, Node>, NoMemory>
         label: Label::Root,
         parent: 0,
         children: Vec::new(alloc),
+        behind: Behind::new(),
     };
     add_row(&mut nodes, 0, root);
     Ok(nodes)
@@ -86,7 +88,7 @@ fn kind_of(label: &Label) -> NodeKind
         Label::Root => NodeKind::Root,
         Label::Text(_) => NodeKind::Text,
         Label::Element(name, _) => {
-            if is_void(name.as_str()) {
+            if name.is_void() {
                 NodeKind::Void
             } else {
                 NodeKind::Element
@@ -117,7 +119,7 @@ fn text_in(label: &Label) -> Option<&Text>
     ensures { option_copied result ≡ reading.text_in (label_of label.now) }
 {
     match label {
-        Label::Text(text) => Some(text),
+        Label::Text(node) => Some(node.text()),
         _ => None,
     }
 }
@@ -178,6 +180,16 @@ impl Tree {
             return None;
         };
         Some(node.children.len())
+    }
+
+    /// A place of the table at which a node stands, which is looked for at a place first; None exactly where there is no such node.
+    pub fn place(&self, id: u64, likely: usize) -> Option<usize>
+        ensures { is_some result ≡ on id self.now }
+    {
+        let Some((place, _)) = find_at(&self.nodes, likely, id) else {
+            return None;
+        };
+        Some(place)
     }
 
     /// The number of a node's child at a place; None exactly where there is none.
@@ -309,7 +321,7 @@ impl Tree {
         requires { IsDone (replay.do_op (replay.OpText id text) self.old) }
         ensures { replay.do_op (replay.OpText id text) self.old ≡ replay.Done self.new }
     {
-        set_label(&mut self.nodes, id, Label::Text(text));
+        set_label(&mut self.nodes, id, Label::Text(TextNode::new(text)));
     }
 
     /// Puts an attribute at a place among the other attributes of an element; after NoMemory the tree is as before.

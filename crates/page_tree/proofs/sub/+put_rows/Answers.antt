@@ -16,7 +16,7 @@ returns-in_ok-put_row-in-Text t c =
     let row : List ℕ → List ℕ → List (ℕ × Row) = λ text ns. (n, record { label = Text text; parent = p; children = ns }) ∷ [] in
     c.in_ok-put_row-in-Text.ensures
     ∙ ap (λ zs. map numbered_row c.args.rows.now.items ++ zs)
-    ((λ i. row (c.in_ok-copy-in-Text.ensures i) (c.new.ensures.items i))
+    ((λ i. row ((c.new.ensures ∙ c.in_ok-copy-in-Text.ensures) i) (c.new-in-Text.ensures.items i))
     ∙ sym (ap (λ s. rows_of p (sub_tree s)) c.in-Text.is ∙ rows_text p n c.in-Text.text))
 
 pub loop-sub-preserved : goal.loop-sub-preserved
