@@ -69,20 +69,29 @@ fn are_eight(quiet: &[bool], place: usize) -> bool
     front & rest
 }
 
-// How many marks are joined at once where many are set.
-const MANY: usize = 64;
+// How many marks are joined at once where many are set, at most.
+const MANY: usize = 128;
 
-// Whether so many are. They are joined in one loop without a test, so that wide instructions may take them together.
-fn are_many(quiet: &[bool], place: usize) -> bool
-    requires { place + MANY ≤ length quiet.now }
-    ensures { IsTrue result → AreMarked place MANY quiet.now }
+// Whether so many are. They are joined in one loop without a test, whose count isn't known before, so that wide instructions take them together.
+fn are_many(quiet: &[bool], place: usize, count: usize) -> bool
+    requires { place + count ≤ length quiet.now }
+    ensures { IsTrue result → AreMarked place count quiet.now }
 {
     let mut all = true;
-    for at in 0..MANY {
+    for at in 0..count {
         let mark = quiet[place + at];
         all = all & mark;
     }
     all
+}
+
+// How many marks are joined next, of so many that are left.
+fn next_many(left: usize) -> usize
+    requires { 0 < left }
+    ensures some { 0 < result }
+    ensures within { result ≤ left }
+{
+    if left < MANY { left } else { MANY }
 }
 
 // A place behind this one and marks that are set, many at a time.
@@ -91,11 +100,12 @@ fn past_many(quiet: &[bool], from: usize) -> usize
     ensures passed { (p : ℕ) → from ≤ p → p < result → is_marked p quiet.now ≡ true }
 {
     let mut place = from;
-    'passing: while quiet.len().saturating_sub(place) >= MANY {
-        if !are_many(quiet, place) {
+    'passing: while place < quiet.len() {
+        let count = next_many(quiet.len() - place);
+        if !are_many(quiet, place, count) {
             return place;
         }
-        place += MANY;
+        place += count;
     }
     place
 }

@@ -1,6 +1,5 @@
 use Rattle.std.proofs.Common.{◌≡◌, ◌+◌, false, sym, subst, ◌∙◌, arith}
 use Rattle.std.proofs.lemmas.Bool.{and_parts}
-use Rattle.effect_tables.specs.declared.heard.TheConstants.{MANY}
 use Rattle.effect_tables.specs.Heard.{AreMarked}
 use Rattle.effect_tables.proofs.Marks.{mark_alone, mark_at, marks_joined}
 use Rattle.effect_tables.proofs.heard.are_many.Goals as goal
@@ -22,4 +21,4 @@ pub returns : goal.returns
 returns c = λ on.
     let t = c.loop-at-test.false in
     let top = c.loop-at.auto.at-end in
-    subst (λ n. AreMarked c.args.place n c.args.quiet.now) (let e : c.loop-at.at ≡ MANY = omega (arith, t, top) in e) (c.loop-at.invariant on)
+    subst (λ n. AreMarked c.args.place n c.args.quiet.now) (let e : c.loop-at.at ≡ c.args.count = omega (arith, t, top) in e) (c.loop-at.invariant on)

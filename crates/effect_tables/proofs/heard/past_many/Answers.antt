@@ -1,5 +1,4 @@
 use Rattle.std.proofs.Common.{arith}
-use Rattle.effect_tables.specs.declared.heard.TheConstants.{MANY}
 use Rattle.effect_tables.proofs.Marks.{marks_on}
 use Rattle.effect_tables.proofs.heard.past_many.Goals as goal
 
@@ -9,5 +8,5 @@ passing-preserved c =
     let o = v.on in
     record {
       on = omega (arith, o);
-      passed = marks_on c.args.from c.passing.place MANY c.args.quiet.now v.passed (c.are_many.ensures c.if-not-are_many.false);
+      passed = marks_on c.args.from c.passing.place c.next_many-count.result c.args.quiet.now v.passed (c.are_many.ensures c.if-not-are_many.false);
     }
