@@ -33,12 +33,11 @@ impl Model for Nodes {
 impl Nodes {
     ghost use Rattle.sig_nodes.specs.Lends.{lends_node};
 
-    /// No signal was made. There is room for as many as may live.
+    /// No signal was made. There is memory for as many as may live.
     pub fn new(alloc: Global) -> Result<Nodes, NoMemory>
         ensures { IfOk result (λ n. n.items ≡ []) }
     {
-        let mut store = Store::new(alloc);
-        store.reserve(MOST_NODES)?;
+        let store = Store::with_capacity(alloc, MOST_NODES)?;
         Ok(Nodes { store })
     }
 
