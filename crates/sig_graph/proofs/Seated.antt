@@ -1,11 +1,12 @@
 -- Going over the seats is going over all that live.
-use Rattle.std.proofs.Common.{◌≡◌, ℕ, zero, suc, ◌||◌, Bool, true, false, List, [], ◌∷◌, Option, Some, None, refl, sym, ap, ◌∙◌, inl, inr}
+use Rattle.std.proofs.Common.{◌≡◌, ℕ, zero, suc, ◌-◌, ◌||◌, Bool, true, false, List, [], ◌∷◌, ◌++◌, length, Option, Some, None, refl, sym, ap, ◌∙◌, inl, inr}
 use Rattle.sig_nodes.specs.declared.node.Node.{Node}
 use Rattle.sig_nodes.specs.declared.node.Body.{Body}
 use Rattle.sig_nodes.specs.declared.node.Body.TheVariants.{Gone, Cell as CellBody, Computed as ComputedBody}
 use Rattle.sig_nodes.specs.Nodes.{asks_host_body, asks_host_here, body_at, is_live_body, seat_at, some_asks_body}
 use Rattle.sig_graph.specs.Search.{of_holder, some_holder}
-use Rattle.sig_seats.specs.Seats.{holder}
+use Rattle.sig_base.specs.declared.limits.TheConstants.{MOST_NODES}
+use Rattle.sig_seats.specs.Seats.{all_seats, empty_seats, holder}
 use Rattle.signal_model.proofs.Shared.{either, or_right}
 
 -- one of two
@@ -29,6 +30,21 @@ passing : (f : ℕ → Bool) (hs : List (Option ℕ)) (P : Type 0) → ((n : ℕ
 passing f [] P k h = cc
 passing f (None ∷ hs) P k h = passing f hs P k h
 passing f (Some n ∷ hs) P k h = elim (either (f n) (some_holder f hs) h) [ inl e ↦ k n e | inr e ↦ passing f hs P k e ]
+
+-- seats that nobody has hold nobody who does
+empty_holders : (f : ℕ → Bool) (n : ℕ) → some_holder f (empty_seats n) ≡ false
+unfolding empty_seats
+empty_holders f zero = refl
+empty_holders f (suc n) = empty_holders f n
+
+more_holders : (f : ℕ → Bool) (hs : List (Option ℕ)) (n : ℕ) → some_holder f (hs ++ empty_seats n) ≡ some_holder f hs
+more_holders f [] n = empty_holders f n
+more_holders f (h ∷ hs) n = ap (λ b. of_holder f h || b) (more_holders f hs n)
+
+-- one of all who have seats does where one of those in the table does
+pub all_holders : (f : ℕ → Bool) (hs : List (Option ℕ)) → some_holder f (all_seats hs) ≡ some_holder f hs
+unfolding all_seats
+all_holders f hs = more_holders f hs (MOST_NODES - length hs)
 
 -- what asks at a place is one of those that ask
 place_asks : (place : ℕ) (xs : List Node) (n : ℕ) → asks_host_here place xs n ≡ true → some_asks_body place xs ≡ true

@@ -17,14 +17,21 @@ fn holder_asks(nodes: &Nodes, holder: Option<NodeId>, place: usize) -> bool
     }
 }
 
-/// Whether one of those who have seats asks the host formula at a place.
-pub(crate) fn uses_host(nodes: &Nodes, seats: &Seats, place: usize) -> bool
-    ensures { result ≡ some_holder (asks_host_here place nodes.now.items) seats.now.holders }
+// Whether one of those who have these seats does.
+fn some_asks(nodes: &Nodes, holders: &[Option<NodeId>], place: usize) -> bool
+    ensures { result ≡ some_holder (asks_host_here place nodes.now.items) holders.now }
 {
-    for holder in seats.holders() {
+    for holder in holders {
         if holder_asks(nodes, *holder, place) {
             return true;
         }
     }
     false
+}
+
+/// Whether one of those who have seats asks the host formula at a place.
+pub(crate) fn uses_host(nodes: &Nodes, seats: &Seats, place: usize) -> bool
+    ensures { result ≡ some_holder (asks_host_here place nodes.now.items) seats.now.holders }
+{
+    some_asks(nodes, seats.holders(), place)
 }

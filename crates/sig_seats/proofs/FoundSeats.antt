@@ -17,9 +17,9 @@ found_written (x ∷ fs) zero f (suc s) = inl refl
 found_written (x ∷ fs) (suc d) f zero = inl refl
 found_written (x ∷ fs) (suc d) f (suc s) = elim (found_written fs d f s) [ inl e ↦ inl e | inr q ↦ inr (ap suc q.0, q.1) ]
 
--- nothing is found at one seat more
-pub none_more : (fs : List ℕ) → ((s : ℕ) → found_at fs s ≡ 0) → (s : ℕ) → found_at (fs ++ 0 ∷ []) s ≡ 0
-none_more [] h zero = refl
-none_more [] h (suc s) = refl
-none_more (f ∷ fs) h zero = h zero
-none_more (f ∷ fs) h (suc s) = none_more fs (λ k. h (suc k)) s
+-- one seat more, of which nothing is found, is like one past the end
+pub found_more : (fs : List ℕ) (s : ℕ) → found_at (fs ++ 0 ∷ []) s ≡ found_at fs s
+found_more [] zero = refl
+found_more [] (suc s) = refl
+found_more (f ∷ fs) zero = refl
+found_more (f ∷ fs) (suc s) = found_more fs s

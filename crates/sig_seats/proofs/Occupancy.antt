@@ -1,11 +1,12 @@
 -- Seats that are taken and left.
-use Rattle.std.proofs.Common.{◌≡◌, ℕ, zero, suc, ◌+◌, ◌<◌, ◌≤◌, ◌==◌, ◌||◌, Bool, true, false, cond, List, [], ◌∷◌, ◌++◌, length, Option, Some, None, refl, sym, ap, ◌∙◌, subst, arith, ◌⊎◌, inl, inr, true≢false}
+use Rattle.std.proofs.Common.{◌≡◌, ℕ, zero, suc, ◌+◌, ◌-◌, length-append, ◌<◌, ◌≤◌, ◌==◌, ◌||◌, Bool, true, false, cond, List, [], ◌∷◌, ◌++◌, length, Option, Some, None, refl, sym, ap, ◌∙◌, subst, arith, ◌⊎◌, inl, inr, true≢false}
 use Rattle.std.specs.Prelude.{slice_set, slice_index_or}
 use Rattle.std.proofs.lemmas.Bool.{eqb-true, eq-eqb}
 use Rattle.signal_model.specs.Signals.{is_in}
 use Rattle.signal_model.specs.Laws.{AreDistinct}
 use Rattle.sig_seats.proofs.Flagged.{in_more}
-use Rattle.sig_seats.specs.Seats.{AreSeats, holder}
+use Rattle.sig_base.specs.declared.limits.TheConstants.{MOST_NODES}
+use Rattle.sig_seats.specs.Seats.{all_seats, empty_seats, seating, AreSeats, holder}
 use Rattle.signal_model.proofs.Shared.{either, or_left, or_right, tested}
 
 -- a seat that is read
@@ -100,37 +101,70 @@ distinct_less (x ∷ xs) y d =
 
 -- ---- what holds of seats
 
--- one seat more, which nobody has
-pub nobody_more : (hs : List (Option ℕ)) → ((k : ℕ) → holder hs k ≡ None) → (k : ℕ) → holder (hs ++ None ∷ []) k ≡ None
-nobody_more [] h zero = refl
-nobody_more [] h (suc k) = refl
-nobody_more (y ∷ ys) h zero = h zero
-nobody_more (y ∷ ys) h (suc k) = nobody_more ys (λ j. h (suc j)) k
+-- seats that nobody has
+pub empty_size : (n : ℕ) → length (empty_seats n) ≡ n
+unfolding empty_seats
+empty_size zero = refl
+empty_size (suc n) = ap suc (empty_size n)
 
--- numbers below a bound, and the bound
-pub inside_more : (xs : List ℕ) (n : ℕ) → ((s : ℕ) → is_in s xs ≡ true → s < n) → (s : ℕ) → is_in s (xs ++ n ∷ []) ≡ true → s < n + 1
-inside_more xs n h s q = elim (either (is_in s xs) (s == n) (sym (in_more s xs n) ∙ q)) [
-  | inl a ↦ let l : s < n = h s a in omega (arith, l)
-  | inr e ↦ let k : s ≡ n = eqb-true s n e in omega (arith, k)
-]
+pub empty_holder : (n s : ℕ) → holder (empty_seats n) s ≡ None
+unfolding empty_seats
+empty_holder zero s = refl
+empty_holder (suc n) zero = refl
+empty_holder (suc n) (suc s) = empty_holder n s
 
--- what is below a bound isn't the bound
-pub bound_out : (xs : List ℕ) (n : ℕ) → ((s : ℕ) → is_in s xs ≡ true → s < n) → is_in n xs ≡ false
-bound_out xs n h = go (is_in n xs) refl
-  where
-    go : (b : Bool) → is_in n xs ≡ b → b ≡ false
-    go true e = let l : n < n = h n e in absurd (omega arith)
-    go false e = refl
+-- behind others
+behind_holder : (hs : List (Option ℕ)) (n s : ℕ) → holder (hs ++ empty_seats n) s ≡ holder hs s
+behind_holder [] n s = empty_holder n s
+behind_holder (h ∷ hs) n zero = refl
+behind_holder (h ∷ hs) n (suc s) = behind_holder hs n s
+
+behind_set : (hs ks : List (Option ℕ)) (s : ℕ) (h : Option ℕ) → s < length hs → slice_set (hs ++ ks) s h ≡ slice_set hs s h ++ ks
+behind_set [] ks s h l = absurd (omega arith)
+behind_set (x ∷ hs) ks zero h l = refl
+behind_set (x ∷ hs) ks (suc s) h l = let k : s < length hs = omega arith in ap (λ ys. x ∷ ys) (behind_set hs ks s h k)
+
+behind_first : (hs : List (Option ℕ)) (n : ℕ) (h : Option ℕ) → slice_set (hs ++ empty_seats (suc n)) (length hs) h ≡ (hs ++ h ∷ []) ++ empty_seats n
+unfolding empty_seats
+behind_first [] n h = refl
+behind_first (x ∷ hs) n h = ap (λ ys. x ∷ ys) (behind_first hs n h)
+
+-- all seats are as many as there may be
+pub all_size : (hs : List (Option ℕ)) → length hs ≤ MOST_NODES → length (all_seats hs) ≡ MOST_NODES
+unfolding all_seats
+all_size hs few = omega (arith, few, length-append hs (empty_seats (MOST_NODES - length hs)), empty_size (MOST_NODES - length hs))
+
+-- who has one, is who has it of those that were taken
+pub all_holder : (hs : List (Option ℕ)) (s : ℕ) → holder (all_seats hs) s ≡ holder hs s
+unfolding all_seats
+all_holder hs s = behind_holder hs (MOST_NODES - length hs) s
+
+-- one that was taken is taken or left again
+pub all_set : (hs : List (Option ℕ)) (s : ℕ) (h : Option ℕ) → s < length hs → slice_set (all_seats hs) s h ≡ all_seats (slice_set hs s h)
+unfolding all_seats
+all_set hs s h l = behind_set hs (empty_seats (MOST_NODES - length hs)) s h l ∙ ap (λ k. slice_set hs s h ++ empty_seats (MOST_NODES - k)) (sym (set_size hs s h))
+
+-- one more is taken
+pub all_first : (hs : List (Option ℕ)) (h : Option ℕ) → length hs < MOST_NODES → slice_set (all_seats hs) (length hs) h ≡ all_seats (hs ++ h ∷ [])
+unfolding all_seats
+all_first hs h few =
+    let left : MOST_NODES - length hs ≡ suc (MOST_NODES - length (hs ++ h ∷ [])) = omega (arith, few, length-append hs (h ∷ [])) in
+    ap (λ k. slice_set (hs ++ empty_seats k) (length hs) h) left ∙ behind_first hs (MOST_NODES - length (hs ++ h ∷ [])) h
+
+-- the same seats and as many free ones are the same
+pub alike_seats : (hs ks : List (Option ℕ)) (f g : ℕ) → hs ≡ ks → f ≡ g → seating hs f ≡ seating ks g
+alike_seats hs ks f g e d = rw (e, d) refl
 
 -- the last free seat is taken
-pub taken_seats : (hs : List (Option ℕ)) (free : List ℕ) (s n cap cap' : ℕ) → cap ≤ cap' → AreSeats hs (free ++ s ∷ []) cap → AreSeats (slice_set hs s (Some n)) free cap'
-taken_seats hs free s n cap cap' more h =
+pub taken_seats : (hs : List (Option ℕ)) (free : List ℕ) (s n most cap cap' : ℕ) → cap ≤ cap' → AreSeats hs (free ++ s ∷ []) most cap → AreSeats (slice_set hs s (Some n)) free most cap'
+taken_seats hs free s n most cap cap' more h =
     let d : AreDistinct free × (is_in s free ≡ false) = distinct_less free s h.once in
     record {
-      size = set_size hs s (Some n) ∙ h.size;
+      few = subst (λ z. z ≤ MOST_NODES) (sym (set_size hs s (Some n))) h.few;
       inside = λ k q. subst (λ z. k < z) (sym (set_size hs s (Some n))) (h.inside k (still k q));
       nobody = λ k q. holder_set hs s k (Some n) (h.inside s here) ∙ go k (s == k) refl d.1 q;
       once = d.0;
+      places = h.places;
       room = let r = h.room in omega (arith, r, more);
     }
   where
@@ -145,22 +179,35 @@ taken_seats hs free s n cap cap' more h =
     go k false e off q = h.nobody k (still k q)
 
 -- the last free seat is nobody's, and is there
-pub last_free : (hs : List (Option ℕ)) (free : List ℕ) (s cap : ℕ) → AreSeats hs (free ++ s ∷ []) cap → (holder hs s ≡ None) × (s < length hs)
-last_free hs free s cap h = (h.nobody s here, h.inside s here)
+pub last_free : (hs : List (Option ℕ)) (free : List ℕ) (s most cap : ℕ) → AreSeats hs (free ++ s ∷ []) most cap → (holder hs s ≡ None) × (s < length hs)
+last_free hs free s most cap h = (h.nobody s here, h.inside s here)
   where
     here : is_in s (free ++ s ∷ []) ≡ true
     here = in_more s free s ∙ or_right (is_in s free) (s == s) (eq-eqb s s refl)
 
+-- a seat is taken for the first time
+pub first_seat : (hs : List (Option ℕ)) (n most most' cap : ℕ) → length hs < MOST_NODES → most ≤ most' → AreSeats hs [] most cap → AreSeats (hs ++ Some n ∷ []) [] most' cap
+first_seat hs n most most' cap few more h = record {
+  few = omega (arith, few, length-append hs (Some n ∷ []));
+  inside = λ s q. absurd (true≢false (sym q));
+  nobody = λ s q. absurd (true≢false (sym q));
+  once = h.once;
+  places = let r = h.places in omega (arith, r, more);
+  room = h.room;
+}
+
 -- a seat is left
-pub left_seats : (hs : List (Option ℕ)) (free : List ℕ) (s n cap cap' : ℕ) → cap ≤ cap' → holder hs s ≡ Some n → AreSeats hs free cap → AreSeats (slice_set hs s None) (free ++ s ∷ []) cap'
-left_seats hs free s n cap cap' more held h = record {
-  size = set_size hs s None ∙ h.size;
+pub left_seats : (hs : List (Option ℕ)) (free : List ℕ) (s n most cap cap' : ℕ) → cap ≤ cap' → holder hs s ≡ Some n → AreSeats hs free most cap
+    → AreSeats (slice_set hs s None) (free ++ s ∷ []) most cap'
+left_seats hs free s n most cap cap' more held h = record {
+  few = subst (λ z. z ≤ MOST_NODES) (sym (set_size hs s None)) h.few;
   inside = λ k q. subst (λ z. k < z) (sym (set_size hs s None)) (elim (either (is_in k free) (k == s) (sym (in_more k free s) ∙ q)) [
     | inl a ↦ h.inside k a
     | inr e ↦ subst (λ z. z < length hs) (sym (eqb-true k s e)) (held_inside hs s n held)
   ]);
   nobody = λ k q. holder_set hs s k None (held_inside hs s n held) ∙ go k (s == k) refl (sym (in_more k free s) ∙ q);
   once = distinct_more free s h.once (off (is_in s free) refl);
+  places = h.places;
   room = let r = h.room in omega (arith, r, more);
 }
   where

@@ -1,35 +1,62 @@
 // What searches have found, by seat.
-ghost use Rattle.std.specs.Prelude.{◌≡◌, ℕ, ◌⊎◌, true, IfOk};
+ghost use Rattle.std.specs.Prelude.{◌≡◌, ℕ, ◌≤◌, ◌⊎◌, true, vec_capacity, IfOk};
 ghost use Rattle.sig_seats.specs.Found.{found_at};
 
+use crate::reached::push_in;
 use sig_base::{MOST_NODES, NoMemory};
 use std::alloc::Global;
 use std::marker::Model;
 
 /// The count of changes at which a search last found that who has a seat, or something below it, must run. It says something only
-/// where it is the present count: each change makes all of it old.
+/// where it is the present count: each change makes all of it old. Of seats past the end nothing was found.
 #[derive(Drop)]
 pub struct Finds {
     at: Vec<u128>,
 }
 
 impl Model for Finds {
-    ghost use Rattle.std.specs.Prelude.{ℕ, List};
+    ghost use Rattle.std.specs.Prelude.{ℕ, ◌≤◌, List, vec_capacity};
+    ghost use Rattle.sig_base.specs.declared.limits.TheConstants.{MOST_NODES};
 
     ghost Value = { List ℕ };
 
     ghost view = { λ f. f.at.items };
+
+    ghost invariant = { λ f. MOST_NODES ≤ vec_capacity f.at };
+}
+
+// Gives a seat its place, and each one before it, where it has none yet.
+fn lengthen(at: &mut Vec<u128>, seat: usize)
+    requires { MOST_NODES ≤ vec_capacity at.old }
+    ensures found { (s : ℕ) → found_at at.new.items s ≡ found_at at.old.items s }
+    ensures room { vec_capacity at.old ≤ vec_capacity at.new }
+{
+    if seat >= MOST_NODES {
+        return;
+    }
+    while at.len() <= seat {
+        push_in(at, 0);
+    }
+}
+
+// Notes what is found of a seat whose place isn't there yet.
+fn note_later(at: &mut Vec<u128>, worn: u128, seat: usize)
+    requires { MOST_NODES ≤ vec_capacity at.old }
+    ensures noted { (s : ℕ) → (found_at at.new.items s ≡ found_at at.old.items s) ⊎ ((s ≡ seat) × (found_at at.new.items s ≡ worn)) }
+    ensures room { vec_capacity at.old ≤ vec_capacity at.new }
+{
+    lengthen(at, seat);
+    if seat < at.len() {
+        at[seat] = worn;
+    }
 }
 
 impl Finds {
-    /// With a place for each seat, where nothing is found.
+    /// Nothing is found. There is memory for each seat.
     pub fn new(alloc: Global) -> Result<Finds, NoMemory>
         ensures { IfOk result (λ f. (s : ℕ) → found_at f s ≡ 0) }
     {
-        let mut at = Vec::with_capacity(alloc, MOST_NODES)?;
-        for _ in 0..MOST_NODES {
-            at.push(0)?;
-        }
+        let at = Vec::with_capacity(alloc, MOST_NODES)?;
         Ok(Finds { at })
     }
 
@@ -46,6 +73,8 @@ impl Finds {
     {
         if seat < self.at.len() {
             self.at[seat] = worn;
+        } else {
+            note_later(&mut self.at, worn, seat);
         }
     }
 }

@@ -1,28 +1,33 @@
 // The seats of live signals: numbers below the limit of signals.
 ghost use Rattle.std.specs.Prelude.{◌≡◌, ℕ, ◌<◌, None, Some, length, IfOk};
-ghost use Rattle.sig_seats.specs.Seats.{holder, with_left, with_taken};
+ghost use Rattle.sig_seats.specs.Seats.{all_seats, holder, with_left, with_taken};
 
 use crate::reached::push_in;
 use sig_base::{MOST_NODES, NoMemory, NodeId};
 use std::alloc::Global;
 use std::marker::Model;
 
-/// Who has each seat, and the free seats.
+/// Who has each seat, and the free seats. A seat has a place in the table once it was taken: until then it is free.
 #[derive(Drop)]
 pub struct Seats {
-    holders: Vec<Option<NodeId>>,
+    taken: Vec<Option<NodeId>>,
+    // those in the table that nobody has now
     free: Vec<usize>,
 }
 
 impl Model for Seats {
-    ghost use Rattle.std.specs.Prelude.{length, vec_capacity};
-    ghost use Rattle.sig_seats.specs.Seats.{AreSeats, Seating};
+    ghost use Rattle.std.specs.Prelude.{length, vec_capacity, ◌+◌, ◌-◌};
+    ghost use Rattle.sig_base.specs.declared.limits.TheConstants.{MOST_NODES};
+    ghost use Rattle.sig_seats.specs.Seats.{all_seats, AreSeats, Seating};
 
     ghost Value = { Seating };
 
-    ghost view = { λ s. record { holders = s.holders.items; free = length s.free.items } };
+    ghost view = { λ s. record {
+      holders = all_seats s.taken.items;
+      free = MOST_NODES - length s.taken.items + length s.free.items;
+    } };
 
-    ghost invariant = { λ s. AreSeats s.holders.items s.free.items (vec_capacity s.free) };
+    ghost invariant = { λ s. AreSeats s.taken.items s.free.items (vec_capacity s.taken) (vec_capacity s.free) };
 }
 
 impl Seats {
@@ -32,35 +37,31 @@ impl Seats {
         ensures free { IfOk result (λ s. s.free ≡ MOST_NODES) }
         ensures empty { IfOk result (λ s. (k : ℕ) → holder s.holders k ≡ None) }
     {
-        let mut holders = Vec::with_capacity(alloc, MOST_NODES)?;
-        let mut free = Vec::with_capacity(alloc, MOST_NODES)?;
-        for seat in 0..MOST_NODES {
-            holders.push(None)?;
-            free.push(seat)?;
-        }
-        Ok(Seats { holders, free })
+        let taken = Vec::with_capacity(alloc, MOST_NODES)?;
+        let free = Vec::with_capacity(alloc, MOST_NODES)?;
+        Ok(Seats { taken, free })
     }
 
     /// How many are free.
     pub fn free(&self) -> usize
         ensures { result ≡ self.now.free }
     {
-        self.free.len()
+        MOST_NODES - self.taken.len() + self.free.len()
     }
 
-    /// Who has each seat.
+    /// Who has each seat that was taken before. Nobody has the others.
     pub fn holders(&self) -> &[Option<NodeId>]
-        ensures { result.now ≡ self.now.holders }
+        ensures { all_seats result.now ≡ self.now.holders }
     {
-        &self.holders
+        &self.taken
     }
 
     /// Who has a seat.
     pub fn holder(&self, seat: usize) -> Option<NodeId>
         ensures { result ≡ holder self.now.holders seat }
     {
-        if seat < self.holders.len() {
-            self.holders[seat]
+        if seat < self.taken.len() {
+            self.taken[seat]
         } else {
             None
         }
@@ -75,10 +76,14 @@ impl Seats {
     {
         match self.free.pop() {
             Some(seat) => {
-                self.holders[seat] = Some(id);
+                self.taken[seat] = Some(id);
                 seat
             }
-            None => unreachable!(),
+            None => {
+                let seat = self.taken.len();
+                push_in(&mut self.taken, Some(id));
+                seat
+            }
         }
     }
 
@@ -88,8 +93,8 @@ impl Seats {
         requires room { self.old.free < MOST_NODES }
         ensures { self.new ≡ with_left self.old seat }
     {
-        let _count = self.holders.len();
-        self.holders[seat] = None;
+        let _count = self.taken.len();
+        self.taken[seat] = None;
         push_in(&mut self.free, seat);
     }
 }

@@ -8,3 +8,8 @@ pub returns-then-seat-len : goal.returns-then-seat-len
 returns-then-seat-len c = λ s.
     let us = slice_set c.self.inside.at.items c.args.seat c.args.worn in
     subst (λ (fs : List ℕ). (found_at us s ≡ found_at fs s) ⊎ ((s ≡ c.args.seat) × (found_at us s ≡ c.args.worn))) c.self.view_is (found_written c.self.inside.at.items c.args.seat c.args.worn s)
+
+pub returns-else-seat-len : goal.returns-else-seat-len
+returns-else-seat-len c = λ s.
+    let us = c.note_later.new.at.items in
+    subst (λ (fs : List ℕ). (found_at us s ≡ found_at fs s) ⊎ ((s ≡ c.args.seat) × (found_at us s ≡ c.args.worn))) c.self.view_is (c.note_later.ensures.noted s)

@@ -1,0 +1,11 @@
+use Rattle.std.proofs.Common.{◌≡◌, ◌⊎◌, ◌∙◌, ℕ, inl, inr}
+use Rattle.std.specs.Prelude.{slice_set}
+use Rattle.sig_seats.specs.Found.{found_at}
+use Rattle.sig_seats.proofs.FoundSeats.{found_written}
+use Rattle.sig_seats.proofs.finds.note_later.Goals as goal
+
+pub returns-then-seat-len-clause-noted : goal.returns-then-seat-len-clause-noted
+returns-then-seat-len-clause-noted c = λ s. elim (found_written c.lengthen.new.at.items c.args.seat c.args.worn s) [
+  | inl same ↦ inl (same ∙ c.lengthen.ensures.found s)
+  | inr here ↦ inr here
+]
