@@ -1,6 +1,4 @@
-use Rattle.std.proofs.Common.{◌≡◌, ◌⊎◌, ◌∙◌, ℕ, inl, inr}
-use Rattle.std.specs.Prelude.{slice_set}
-use Rattle.sig_seats.specs.Found.{found_at}
+use Rattle.std.proofs.Common.{◌∙◌, inl, inr}
 use Rattle.sig_seats.proofs.FoundSeats.{found_written}
 use Rattle.sig_seats.proofs.finds.note_later.Goals as goal
 

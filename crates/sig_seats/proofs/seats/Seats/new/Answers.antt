@@ -1,5 +1,4 @@
-use Rattle.std.proofs.Common.{◌≡◌, ◌∙◌, ℕ, Option, List, sym, subst, ap, length, refl, arith}
-use Rattle.std.specs.Prelude.{None}
+use Rattle.std.proofs.Common.{◌∙◌, ℕ, Option, List, ap, length, arith}
 use Rattle.sig_seats.specs.Seats.{holder}
 use Rattle.sig_seats.proofs.Occupancy.{all_holder, all_size}
 use Rattle.sig_seats.proofs.seats.Seats.new.Goals as goal

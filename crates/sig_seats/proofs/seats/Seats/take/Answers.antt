@@ -1,8 +1,8 @@
-use Rattle.std.proofs.Common.{ℕ, Option, ◌≡◌, ◌<◌, ◌+◌, ◌-◌, ◌∷◌, ◌++◌, [], List, length, length-append, set, sym, ap, ◌∙◌, subst, arith, Some}
+use Rattle.std.proofs.Common.{ℕ, Option, ◌≡◌, ◌<◌, ◌+◌, ◌-◌, ◌∷◌, [], List, length, length-append, sym, ap, ◌∙◌, subst, arith, Some}
 use Rattle.std.specs.Prelude.{slice_set, vec_capacity}
 use Rattle.sig_base.specs.declared.limits.TheConstants.{MOST_NODES}
 use Rattle.sig_seats.specs.Seats.{all_seats, with_taken, AreSeats, Seating, holder}
-use Rattle.sig_seats.proofs.Occupancy.{all_first, all_holder, all_set, all_size, alike_seats, first_seat, holder_past, taken_seats, last_free, set_size}
+use Rattle.sig_seats.proofs.Occupancy.{all_first, all_holder, all_set, all_size, alike_seats, holder_past, taken_seats, last_free, set_size}
 use Rattle.sig_seats.proofs.seats.Seats.take.Goals as goal
 
 pub invariant_of-self : goal.invariant_of-self
