@@ -97,13 +97,12 @@ impl Marks {
         }
     }
 
-    // Marks one signal, and tells whether it was marked before.
-    fn mark(&mut self, id: NodeId) -> bool
+    // Marks one signal.
+    fn mark(&mut self, id: NodeId)
         requires { id < length self.old.marked }
-        ensures after { self.new ≡ with_mark self.old id true }
-        ensures was { result ≡ marked_at self.old.marked id }
+        ensures { self.new ≡ with_mark self.old id true }
     {
-        mark_one(&mut self.marked, id.number())
+        let _before = mark_one(&mut self.marked, id.number());
     }
 
     /// Takes the mark of a signal that stands.
@@ -138,17 +137,30 @@ impl Marks {
         &self.fresh
     }
 
+    // Marks a signal, and then its dependants, theirs, and so on. It stands apart, so that what is marked already is passed over in few steps.
+    #[inline(never)]
+    fn mark_on(&mut self, id: NodeId)
+        requires { id < length self.old.marked }
+        ensures marks { Spreads self.old.dependants (slice_set self.old.marked id true) self.new.marked id }
+        ensures dependants { self.new.dependants ≡ self.old.dependants }
+        ensures stands { self.new.stands ≡ self.old.stands }
+    {
+        self.mark(id);
+        self.spread(id);
+    }
+
     /// Marks a signal, and then its dependants, theirs, and so on; where it is marked already nothing changes. It takes no memory.
+    #[inline(always)]
     pub fn push(&mut self, id: NodeId)
         requires { id < length self.old.marked }
         ensures marks { Pushes self.old.dependants self.old.marked self.new.marked id }
         ensures dependants { self.new.dependants ≡ self.old.dependants }
         ensures stands { self.new.stands ≡ self.old.stands }
     {
-        if self.mark(id) {
+        if self.is_marked(id) {
             return;
         }
-        self.spread(id);
+        self.mark_on(id);
     }
 
     /// Gives a reader these sources in place of the earlier ones; those that are gone don't note it. Without memory all is as before.

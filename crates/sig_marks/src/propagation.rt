@@ -111,6 +111,7 @@ fn dependants_in(sets: &Store<IndexSet<u128>>, id: u128) -> &[u128]
 }
 
 // The same for the dependants of one signal. It has the same clauses, but asks that all that depends on anything is within the marks.
+#[inline(always)]
 fn mark_dependants(
     sets: &Store<IndexSet<u128>>,
     marked: &mut Store<bool>,
