@@ -1,14 +1,12 @@
 // What must run.
-ghost use Rattle.std.specs.Prelude.{◌≡◌, ℕ, ◌&&◌, [], true, false, IfSome, IfNone, slice_get};
+ghost use Rattle.std.specs.Prelude.{◌≡◌, ◌&&◌, [], true, false, IfSome, IfNone, slice_get};
 ghost use Rattle.signal_model.specs.Memos.{must_run_by, some_moved, sources_in};
 ghost use Rattle.sig_nodes.specs.Nodes.{body_at, has_differed, is_computed_body, memo_body, seat_at};
 ghost use Rattle.sig_graph.specs.Parts.{memos_of};
-ghost use Rattle.sig_graph.specs.Places.{KeepsFound};
-ghost use Rattle.sig_graph.specs.Search.{is_due_at, HasDue};
+ghost use Rattle.sig_graph.specs.Search.{is_due_at};
 
 use sig_base::NodeId;
-use sig_nodes::{Body, Computation, Node, Nodes, differs, seat_at};
-use sig_seats::Finds;
+use sig_nodes::{Body, Computation, Node, Nodes, differs};
 
 // Whether one of the sources that a computed keeps has another number than the one that was read.
 fn some_moved(nodes: &Nodes, computation: &Computation) -> bool
@@ -81,12 +79,4 @@ pub(crate) fn computed_seat(nodes: &Nodes, id: NodeId) -> Option<usize>
         Some(node) => seat_of(node),
         None => None,
     }
-}
-
-/// Whether a search has found that a computed, or something below it, must run.
-pub(crate) fn is_known_due(nodes: &Nodes, worn: u128, id: NodeId, finds: &Finds) -> bool
-    requires { is_computed_body (body_at nodes.now.items id) ≡ true }
-    ensures { result ≡ true → (g : ℕ) → KeepsFound nodes.now.items g worn finds.now → HasDue nodes.now.items g id }
-{
-    finds.is_found(worn, seat_at(nodes, id))
 }

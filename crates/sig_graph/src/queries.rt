@@ -1,30 +1,31 @@
 // The marks of computeds.
 ghost use Rattle.std.specs.Prelude.{◌≡◌, true, false};
 ghost use Rattle.signal_model.specs.Signals.{is_computed, standing};
-ghost use Rattle.signal_model.specs.Marks.{mark_of};
+ghost use Rattle.signal_model.specs.Marks.{is_due, mark_of};
 ghost use Rattle.sig_nodes.specs.Answers.{mark_meant};
 ghost use Rattle.sig_graph.specs.Looks.{is_clean_mark};
 ghost use Rattle.sig_graph.specs.States.{with_look, Becomes};
 
 use crate::evaluation::counted;
 use crate::graph::Graph;
-use crate::marks::{is_due, is_known_due};
-use crate::search::finds_due;
+use crate::marks::is_due;
+use crate::search::{finds_below, told_clean};
 use crate::search_marks::unmark_reached;
 use sig_base::NodeId;
 use sig_nodes::Mark;
 
 impl Graph {
-    // Whether a search finds that a computed is clean. One that found nothing that must run takes the marks of all that it went through,
-    // if it may. It stands apart, so that what is told without it is told in few steps.
+    // Whether a search finds that a computed that needn't run itself is clean. One that found nothing that must run takes the marks of all
+    // that it went through, if it may. It stands apart, so that what is told without it is told in few steps.
     #[inline(never)]
     fn is_searched_clean(&mut self, id: NodeId) -> bool
-        requires { is_computed (standing self.old.state.signals id) ≡ true }
+        requires live { is_computed (standing self.old.state.signals id) ≡ true }
+        requires calm { is_due self.old.state.signals self.old.state.memos id ≡ false }
         ensures clean { result ≡ is_clean_mark (mark_of self.old.state.signals self.old.state.memos id) }
         ensures same { self.new ≡ self.old }
     {
         let _count = self.nodes.made();
-        if finds_due(
+        if finds_below(
             &self.nodes,
             self.generation,
             self.worn,
@@ -45,20 +46,25 @@ impl Graph {
         true
     }
 
-    // Whether a computed is clean: it isn't where a search has found it, it is where it isn't marked, and else a search tells.
+    // Whether a computed is clean, by a search where it isn't told without one.
     fn has_clean_mark(&mut self, id: NodeId) -> bool
         requires { is_computed (standing self.old.state.signals id) ≡ true }
         ensures clean { result ≡ is_clean_mark (mark_of self.old.state.signals self.old.state.memos id) }
         ensures same { self.new ≡ self.old }
     {
         let _count = self.nodes.made();
-        if is_known_due(&self.nodes, self.worn, id, &self.finds) {
-            return false;
+        let told = told_clean(
+            &self.nodes,
+            self.generation,
+            self.worn,
+            &self.marks,
+            &self.finds,
+            id,
+        );
+        match told {
+            Some(clean) => clean,
+            None => self.is_searched_clean(id),
         }
-        if !self.marks.is_marked(id) {
-            return true;
-        }
-        self.is_searched_clean(id)
     }
 
     // The mark of a computed that isn't clean.

@@ -1,5 +1,5 @@
 // The search for a computed that must run, among what is marked below a computed.
-ghost use Rattle.std.specs.Prelude.{◌≡◌, ℕ, ◌+◌, ◌*◌, ◌<◌, ◌≤◌, ◌++◌, ◌∷◌, ◌&&◌, [], length, not, true, false, Some, IfSome, is_some, slice_get};
+ghost use Rattle.std.specs.Prelude.{◌≡◌, ℕ, ◌+◌, ◌*◌, ◌<◌, ◌≤◌, ◌++◌, ◌∷◌, ◌&&◌, [], length, not, true, false, Some, IfNone, IfSome, is_some, slice_get};
 ghost use Rattle.std.specs.Option.{option_map};
 ghost use Rattle.signal_model.specs.Signals.{is_in};
 ghost use Rattle.signal_model.specs.Memos.{source_names, sources_in};
@@ -10,7 +10,7 @@ ghost use Rattle.sig_graph.specs.Parts.{memos_of, signals_of};
 ghost use Rattle.sig_graph.specs.Places.{CanSearch, KeepsFound};
 ghost use Rattle.sig_graph.specs.Search.{first_new, is_due_at, is_new, AreDue, AreSeated, HasDue, IsWay, Reaches};
 
-use crate::marks::{computed_seat, is_due, is_node_due};
+use crate::marks::{computed_seat, is_node_due};
 use sig_base::{MOST_NODES, NodeId};
 use sig_marks::Marks;
 use sig_nodes::{Body, Node, Nodes, seat_at, sources_at};
@@ -195,9 +195,9 @@ fn begin(nodes: &Nodes, id: NodeId, reached: &mut Reached, trail: &mut Trail)
     go_to(id, seat_at(nodes, id), reached, trail);
 }
 
-// Whether something below a computed that needn't run itself must run. What it found is noted by seat, with the count of changes at which it
-// did.
-fn finds_below(
+/// Whether something below a computed that needn't run itself must run. Where nothing must, all seats that the search came to are reached
+/// afterwards. What it found is noted by seat, with the count of changes at which it did, and isn't searched for anew until the next change.
+pub(crate) fn finds_below(
     nodes: &Nodes,
     generation: u128,
     worn: u128,
@@ -221,25 +221,30 @@ fn finds_below(
     false
 }
 
-/// Whether a computed, or something below it, must run. Where nothing must, all seats that the search came to are reached afterwards. What
-/// it found is noted by seat, with the count of changes at which it did, and isn't searched for anew until the next change.
-pub(crate) fn finds_due(
+/// Whether a computed is clean, as far as it is told without a search: it is where it isn't marked, and isn't where it must run, or where
+/// it was found that something below it must. None where a search tells it.
+pub(crate) fn told_clean(
     nodes: &Nodes,
     generation: u128,
     worn: u128,
     marks: &Marks,
+    finds: &Finds,
     id: NodeId,
-    reached: &mut Reached,
-    trail: &mut Trail,
-    finds: &mut Finds,
-) -> bool
-    requires { CanSearch nodes.now.items generation worn marks.now finds.old id }
-    ensures mark { not result ≡ is_clean_mark (mark_of (signals_of nodes.now.items) (memos_of generation nodes.now.items) id) }
-    ensures reached { result ≡ false → Reaches nodes.now.items marks.now.marked generation reached.new [] }
-    ensures kept { KeepsFound nodes.now.items generation worn finds.new }
+) -> Option<bool>
+    requires { CanSearch nodes.now.items generation worn marks.now finds.now id }
+    ensures clean { IfSome result (λ b. b ≡ is_clean_mark (mark_of (signals_of nodes.now.items) (memos_of generation nodes.now.items) id)) }
+    ensures calm { IfNone result (is_due_at nodes.now.items generation id ≡ false) }
 {
-    if is_due(nodes, generation, id) {
-        return true;
+    if !marks.is_marked(id) {
+        return Some(true);
     }
-    finds_below(nodes, generation, worn, marks, id, reached, trail, finds)
+    match nodes.at(id) {
+        Some(node) => {
+            if is_told(nodes, generation, worn, node, finds) {
+                return Some(false);
+            }
+            None
+        }
+        None => unreachable!(),
+    }
 }
