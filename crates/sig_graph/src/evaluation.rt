@@ -33,6 +33,7 @@ pub(crate) fn counted(looked: u128) -> u128
 
 impl Graph {
     // Begins the evaluation of a computed, and tells whether it is stale.
+    #[inline(always)]
     fn begun_stale(&mut self, id: NodeId) -> bool
         requires live { is_computed (standing self.old.state.signals id) ≡ true }
         requires idle { is_computing self.old.state id ≡ false }
@@ -59,6 +60,7 @@ impl Graph {
 
     /// Begins the evaluation of a computed, as `begin` does, and tells whether it has to run whatever its sources are: it has never run,
     /// holds `cycle` of an earlier generation, or holds another outcome and was rewired since. It is a counted step.
+    #[inline(always)]
     pub fn begin_stale(&mut self, id: NodeId) -> bool
         requires live { is_computed (standing self.old.state.signals id) ≡ true }
         requires idle { is_computing self.old.state id ≡ false }
