@@ -129,7 +129,8 @@ known_more n (k ∷ ks) more v h = go (k.slot == n) (known_more n ks more v) h
     go true f h = h
     go false f h = f h
 
-served_more : (tracking : Bool) (n : ℕ) (known more : List Known) (v : Value) → served tracking n known [] ≡ Some v →
+-- a value that serves a slot serves it then, too
+pub served_more : (tracking : Bool) (n : ℕ) (known more : List Known) (v : Value) → served tracking n known [] ≡ Some v →
     served tracking n (known ++ more) [] ≡ Some v
 served_more true n known more v h = known_more n known more v h
 served_more false n known more v h = go (known_at n known) (known_at n (known ++ more)) (known_more n known more v) h

@@ -1,6 +1,8 @@
 -- What is told at once of a formula of few operations.
-use Rattle.std.specs.Prelude.{◌≡◌, Some, None}
+use Rattle.std.specs.Prelude.{◌≡◌, ◌++◌, false, List, [], Some, None}
+use Rattle.sig_base.specs.declared.value.Known.{Known}
 use Rattle.sig_base.specs.declared.value.Step.{Step}
+use Rattle.sig_base.specs.declared.value.Value.{Value}
 use Rattle.sig_base.specs.declared.value.Value.TheVariants as value
 use Rattle.sig_base.specs.declared.value.Outcome.{Outcome}
 use Rattle.sig_base.specs.declared.value.Outcome.TheVariants.{Good}
@@ -8,7 +10,10 @@ use Rattle.sig_formula.specs.declared.at_once.AtOnce.{AtOnce}
 use Rattle.sig_formula.specs.declared.at_once.AtOnce.TheVariants as at_once
 use Rattle.sig_formula.specs.declared.at_once.Told.{Told}
 use Rattle.sig_formula.specs.declared.at_once.Told.TheVariants.{Slot as SlotTold, Ended, Open}
-use Rattle.sig_formula.specs.Evaluation.{step_by}
+use Rattle.sig_formula.specs.Evaluation.{formula_step, known_at, step_by}
+use Rattle.sig_formula.specs.Trees.{Tree, slot}
+use Rattle.sig_formula.specs.declared.parts.Part.{Part}
+use Rattle.sig_formula.specs.declared.parts.Part.TheVariants as part
 use Rattle.sig_formula.specs.declared.at_once.Operand.{Operand}
 use Rattle.sig_formula.specs.declared.at_once.Operand.TheVariants as operand
 use Rattle.sig_formula.specs.declared.evaluate.FormulaStep.{FormulaStep}
@@ -31,3 +36,13 @@ abbrev pub IsTold : Told → Outcome → Step → Type 0
 IsTold (SlotTold n) o s = step_by (Some n) o ≡ s
 IsTold Ended o s = step_by None o ≡ s
 IsTold Open o s = Unit {0}
+
+-- a part that comes to a value, also where more is known
+abbrev pub StaysGood : Tree → List Known → Value → Type 0
+StaysGood t known v = (more : List Known) → formula_step false t None (known ++ more) [] ≡ End (Good v)
+
+-- what is told of a part: the slot that it is and that isn't known, or the whole number that it is, also where more is known
+abbrev pub IsPartTold : Part → Tree → List Known → Type 0
+IsPartTold (part.Slot n) t known = (t ≡ slot n) × (known_at n known ≡ None)
+IsPartTold (part.Number m) t known = StaysGood t known (value.Int m)
+IsPartTold part.Open t known = Unit {0}

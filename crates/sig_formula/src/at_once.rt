@@ -10,7 +10,8 @@ ghost use Rattle.sig_formula.specs.Programs.{decides};
 ghost use Rattle.sig_formula.specs.Trees.{binary, tree};
 
 use crate::evaluate::served;
-use crate::operate::{difference, outcome_of, product, sum};
+use crate::operate::{difference, product, sum};
+use crate::parts::operate_numbers;
 use crate::program::decides;
 use crate::row::{field_outcome, key_outcome};
 use crate::{BinOp, Formula, RowRef};
@@ -122,39 +123,14 @@ fn operand_of(tracking: bool, f: &Formula, tracked: &[Known], untracked: &[Known
 }
 
 // What an operator makes of two whole numbers; nothing is told where it makes a text of them.
-#[inline(never)]
-fn any_at_once(op: BinOp, left: i64, right: i64, outcome: &mut Outcome) -> AtOnce
-    ensures { told result outcome.new (End (operated op (value.Int left) (value.Int right))) ≡ End (operated op (value.Int left) (value.Int right)) }
-{
-    match outcome_of(op, &Value::Int(left), &Value::Int(right)) {
-        Some(made) => {
-            *outcome = made;
-            AtOnce::End
-        }
-        None => AtOnce::Open,
-    }
-}
-
-// The same, with the commonest operators on their own.
 #[inline(always)]
 fn operate_at_once(op: BinOp, left: i64, right: i64, outcome: &mut Outcome) -> AtOnce
     ensures { told result outcome.new (End (operated op (value.Int left) (value.Int right))) ≡ End (operated op (value.Int left) (value.Int right)) }
 {
-    match op {
-        BinOp::Add => {
-            *outcome = sum(left, right);
-            AtOnce::End
-        }
-        BinOp::Sub => {
-            *outcome = difference(left, right);
-            AtOnce::End
-        }
-        BinOp::Mul => {
-            *outcome = product(left, right);
-            AtOnce::End
-        }
-        _ => any_at_once(op, left, right, outcome),
+    if operate_numbers(op, left, right, outcome) {
+        return AtOnce::End;
     }
+    AtOnce::Open
 }
 
 // An operator whose left operand doesn't decide.

@@ -16,8 +16,8 @@ pub enum FormulaStep {
     End(Outcome),
 }
 
-// The value of a slot, where it is known.
-fn known_at(slot: u32, known: &[Known]) -> Option<&Value>
+/// The value of a slot, where it is known.
+pub(crate) fn known_at(slot: u32, known: &[Known]) -> Option<&Value>
     ensures { option_copied result ≡ known_at slot known.now }
 {
     for entry in known {

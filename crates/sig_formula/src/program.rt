@@ -51,7 +51,7 @@ pub enum Instruction {
 }
 
 /// Whether the left operand can decide alone.
-pub(crate) fn decides(op: BinOp) -> bool
+pub fn decides(op: BinOp) -> bool
     ensures { result ≡ decides op }
 {
     match op {

@@ -1,25 +1,38 @@
 -- Slots that are read in one go: by the nodes, and by what these stand for.
-use Rattle.std.proofs.Common.{◌≡◌, ℕ, ◌+◌, ◌≤◌, ◌^◌, Bool, true, false, cond, List, [], ◌∷◌, ◌++◌, append_assoc, length, map, Some, sym, ap, ◌∙◌, subst, arith, is_some}
-use Rattle.std.specs.Prelude.{nat_lt, slice_index}
+use Rattle.std.proofs.Common.{◌≡◌, ℕ, ◌+◌, ◌≤◌, ◌^◌, Bool, true, false, cond, List, [], ◌∷◌, ◌++◌, append_assoc, length, length-append, map, Some, None, refl, sym, ap, ◌∙◌, subst, arith, is_some}
+use Rattle.std.specs.Prelude.{nat_lt, slice_get, slice_index}
 use Rattle.std.specs.List.{All}
 use Rattle.std.proofs.lemmas.List.{append-nil, map-append}
 use Rattle.std.proofs.lemmas.List.Elements.{All-append, All-cons, All-nil}
-use Rattle.std.proofs.lemmas.Option.{get_or_from_slice_get}
+use Rattle.std.proofs.lemmas.Option.{get_or_from_slice_get, slice_get_within}
 use Rattle.sig_base.specs.declared.value.Known.{Known}
+use Rattle.sig_base.specs.declared.value.Value.{Value}
+use Rattle.sig_base.specs.declared.value.Outcome.{Outcome}
+use Rattle.sig_base.specs.declared.value.Outcome.TheVariants.{Good}
+use Rattle.sig_formula.specs.declared.evaluate.FormulaStep.TheVariants.{End}
+use Rattle.sig_formula.specs.declared.formula.BinOp.{BinOp}
+use Rattle.sig_formula.specs.Evaluation.{formula_step, known_at, operated}
+use Rattle.sig_formula.specs.Operations.{StaysGood}
+use Rattle.sig_formula.specs.Programs.{decides}
+use Rattle.sig_formula.specs.Trees.{Tree, binary, slot}
+use Rattle.sig_formula.proofs.Shared.{left_asks, pair_ends, part_ends, right_asks, slot_read, whole_asks}
+use Rattle.signal_model.specs.Recipes as recipes
 use Rattle.signal_model.specs.Recipes.{Recipe, IsUnknownSlot, judged}
 use Rattle.signal_model.specs.Signals.{IsComputed, Stands, is_in, standing}
 use Rattle.sig_marks.specs.Tables.{MarkTable}
-use Rattle.sig_nodes.specs.declared.answers.Asked.TheVariants.{Slot as SlotAsked}
+use Rattle.sig_nodes.specs.declared.answers.Asked.TheVariants.{Slot as SlotAsked, Ended}
 use Rattle.sig_nodes.specs.declared.node.Node.{Node}
 use Rattle.sig_nodes.specs.declared.node.Body.TheVariants.{Computed as ComputedBody}
-use Rattle.sig_nodes.specs.Answers.{slots_here, IsAnswerHere}
+use Rattle.sig_nodes.specs.Answers.{slots_here, IsAnswerHere, IsAnswerOf}
+use Rattle.sig_nodes.proofs.Shared.{formula_ends, formula_needs}
 use Rattle.sig_nodes.specs.Computations.{Computation}
+use Rattle.sig_nodes.specs.Reading.{IsNeeded}
 use Rattle.sig_graph.specs.Looks.{is_clean_mark}
 use Rattle.sig_nodes.specs.Nodes.{body_at, stands_of}
 use Rattle.sig_graph.specs.Parts.{signals_of, state_of}
 use Rattle.sig_graph.specs.Places.{KeepsMarks}
 use Rattle.sig_graph.specs.States.{State, counted}
-use Rattle.sig_graph.specs.Reading.{SlotRead, AreReadHere, AreReadNext, HasReadHere, HasReadOn, IsReadHere, IsReadNext, ReadsNext}
+use Rattle.sig_graph.specs.Reading.{SlotRead, AreReadHere, AreReadNext, AsksFor, HasReadHere, HasReadOn, IsReadHere, IsReadNext, IsReady, ReadsNext}
 use Rattle.sig_graph.proofs.Consistency.{computed_here}
 use Rattle.sig_graph.proofs.Lookups.{at_place, shown_found}
 use Rattle.sig_graph.proofs.Parts.{progress_found, stands}
@@ -59,6 +72,102 @@ read_more xs marked c first known known' begun reads reads' h n = record {
 -- before the first
 pub none_read : (xs : List Node) (marked : List Bool) (c : Recipe) (known : List Known) (reads : List ℕ) → HasReadHere xs marked c known reads known reads
 none_read xs marked c known reads = record { more = []; knows = sym (append-nil known); names = sym (append-nil reads); here = tt }
+
+-- ---- slots that are read after others
+
+-- several
+reads_behind : (xs : List Node) (marked : List Bool) (c : Recipe) (known : List Known) (more rs : List SlotRead) → AreReadHere xs marked c known more →
+    AreReadHere xs marked c (known ++ map known_in more) rs → AreReadHere xs marked c known (more ++ rs)
+reads_behind xs marked c known [] rs before after = subst (λ (ks : List Known). AreReadHere xs marked c ks rs) (append-nil known) after
+reads_behind xs marked c known (s ∷ ss) rs before after = (
+  before.0,
+  reads_behind xs marked c (known ++ s.known ∷ []) ss rs before.1
+      (subst (λ (ks : List Known). AreReadHere xs marked c ks rs) (sym (append_assoc known (s.known ∷ []) (map known_in ss))) after),
+)
+
+-- the two together
+pub read_both : (xs : List Node) (marked : List Bool) (c : Recipe) (first known known' : List Known) (begun reads reads' : List ℕ) →
+    HasReadHere xs marked c first begun known reads → HasReadHere xs marked c known reads known' reads' → HasReadHere xs marked c first begun known' reads'
+read_both xs marked c first known known' begun reads reads' h n = record {
+  more = h.more ++ n.more;
+  knows = n.knows ∙ ap (λ ks. ks ++ map known_in n.more) h.knows ∙ append_assoc first (map known_in h.more) (map known_in n.more)
+      ∙ ap (λ ks. first ++ ks) (sym (map-append known_in h.more n.more));
+  names = n.names ∙ ap (λ ns. ns ++ map name_in n.more) h.names ∙ append_assoc begun (map name_in h.more) (map name_in n.more)
+      ∙ ap (λ ns. begun ++ ns) (sym (map-append name_in h.more n.more));
+  here = reads_behind xs marked c first h.more n.more h.here (subst (λ (ks : List Known). AreReadHere xs marked c ks n.more) h.knows n.here);
+}
+
+-- no less is known then
+pub no_less_known : (xs : List Node) (marked : List Bool) (c : Recipe) (known known' : List Known) (reads reads' : List ℕ) →
+    HasReadHere xs marked c known reads known' reads' → length known ≤ length known'
+no_less_known xs marked c known known' reads reads' h =
+    let more : List Known = map known_in h.more in
+    let e : length known' ≡ length known + length more = ap length h.knows ∙ length-append known more in
+    omega (arith, e)
+
+-- ---- a formula that is gone over once
+
+-- a slot that is read
+pub number_read : (xs : List Node) (marked : List Bool) (c : Recipe) (known known' : List Known) (reads reads' : List ℕ) (n id : ℕ) (v w : Value) →
+    slice_get c.slots n ≡ Some id → IsNeeded c known n → IsReady xs marked id v → w ≡ v → known' ≡ known ++ (record { slot = n; value = w }) ∷ [] →
+    reads' ≡ reads ++ id ∷ [] → HasReadHere xs marked c known reads known' reads'
+number_read xs marked c known known' reads reads' n id v w got needed ready same knows names =
+    let inside = slice_get_within c.slots n id got in
+    let read : SlotRead = record { known = record { slot = n; value = w }; name = id } in
+    read_more xs marked c known known known' reads reads reads' (none_read xs marked c known reads) (record {
+      read = read;
+      knows = knows;
+      names = names;
+      here = record {
+        asked = (needed inside).0;
+        judged = (needed inside).1;
+        name = got;
+        ready = subst (λ (u : Value). IsReady xs marked id u) (sym same) ready;
+      };
+    })
+
+-- it comes to its value then
+pub number_told : (n : ℕ) (known known' : List Known) (v : Value) → known_at n known ≡ None → known' ≡ known ++ (record { slot = n; value = v }) ∷ [] →
+    StaysGood (slot n) known' v
+number_told n known known' v unknown knows =
+    subst (λ (ks : List Known). StaysGood (slot n) ks v) (sym knows) (slot_read (slot n) n known v refl unknown)
+
+-- what a part comes to it goes on to come to
+pub part_now : (t : Tree) (known : List Known) (v : Value) → StaysGood t known v → formula_step false t None known [] ≡ End (Good v)
+part_now t known v h = subst (λ (ks : List Known). formula_step false t None ks [] ≡ End (Good v)) (append-nil known) (h [])
+
+part_then : (xs : List Node) (marked : List Bool) (c : Recipe) (known known' : List Known) (reads reads' : List ℕ) (t : Tree) (v : Value) →
+    StaysGood t known v → HasReadHere xs marked c known reads known' reads' → formula_step false t None known' [] ≡ End (Good v)
+part_then xs marked c known known' reads reads' t v good h =
+    subst (λ (ks : List Known). formula_step false t None ks [] ≡ End (Good v)) (sym h.knows) (good (map known_in h.more))
+
+-- a formula that asks for a slot needs it
+pub alone_asks : (c : Recipe) (t : Tree) (known : List Known) → c.expression ≡ recipes.formula None t → AsksFor c t known
+alone_asks c t known is n h = formula_needs c t known n is (whole_asks t known n h)
+
+-- where it comes to a value, that is the answer
+pub alone_ends : (c : Recipe) (t : Tree) (known : List Known) (v : Value) (o : Outcome) → c.expression ≡ recipes.formula None t →
+    StaysGood t known v → o ≡ Good v → IsAnswerOf c known Ended o
+alone_ends c t known v o is good made =
+    subst (λ (x : Outcome). IsAnswerOf c known Ended x) (sym made) (formula_ends c t known (Good v) is (part_ends t known v (part_now t known v good)))
+
+-- an operation needs the slot that its left part asks for
+pub first_asks : (c : Recipe) (o : BinOp) (a b : Tree) (known : List Known) → c.expression ≡ recipes.formula None (binary o a b) → AsksFor c a known
+first_asks c o a b known is n h = formula_needs c (binary o a b) known n is (left_asks o a b known n h)
+
+-- and then the one that its right part asks for
+pub second_asks : (c : Recipe) (o : BinOp) (a b : Tree) (known : List Known) (v : Value) → c.expression ≡ recipes.formula None (binary o a b) →
+    decides o ≡ false → StaysGood a known v → AsksFor c b known
+second_asks c o a b known v is free good n h =
+    formula_needs c (binary o a b) known n is (right_asks o a b known v n free (part_now a known v good) h)
+
+-- what it makes of the two is the answer
+pub pair_answers : (xs : List Node) (marked : List Bool) (c : Recipe) (known known' : List Known) (reads reads' : List ℕ) (o : BinOp) (a b : Tree) (v w : Value)
+    (x : Outcome) → c.expression ≡ recipes.formula None (binary o a b) → decides o ≡ false → StaysGood a known v →
+    HasReadHere xs marked c known reads known' reads' → StaysGood b known' w → x ≡ operated o v w → IsAnswerOf c known' Ended x
+pair_answers xs marked c known known' reads reads' o a b v w x is free first h second made =
+    formula_ends c (binary o a b) known' x is
+    (pair_ends o a b known' v w x free (part_then xs marked c known known' reads reads' a v first h) (part_now b known' w second) made)
 
 -- ---- by what the nodes stand for
 

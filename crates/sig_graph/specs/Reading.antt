@@ -1,9 +1,15 @@
 -- What a computed reads in one go: the slots of its formula that are ready, one after the other.
-use Rattle.std.specs.Prelude.{◌≡◌, ℕ, Bool, true, false, List, [], ◌∷◌, ◌++◌, map, length, slice_get, slice_index, Some, is_some}
+use Rattle.std.specs.Prelude.{◌≡◌, ℕ, Bool, true, false, List, [], ◌∷◌, ◌++◌, map, length, slice_get, slice_index, Some, None, is_some}
 use Rattle.sig_base.specs.declared.value.Value.{Value}
+use Rattle.sig_base.specs.declared.value.Value.TheVariants as value
 use Rattle.sig_base.specs.declared.value.Known.{Known}
 use Rattle.sig_base.specs.declared.value.Outcome.{Outcome}
 use Rattle.sig_base.specs.declared.value.Outcome.TheVariants.{Good}
+use Rattle.sig_formula.specs.declared.evaluate.FormulaStep.TheVariants.{Ask}
+use Rattle.sig_formula.specs.declared.parts.Part.{Part}
+use Rattle.sig_formula.specs.declared.parts.Part.TheVariants as part
+use Rattle.sig_formula.specs.Evaluation.{formula_step}
+use Rattle.sig_formula.specs.Trees.{Tree}
 use Rattle.signal_model.specs.Recipes.{Recipe, IsUnknownSlot}
 use Rattle.signal_model.specs.Signals.{is_computed, standing}
 use Rattle.signal_model.specs.Memos.{memo_of}
@@ -15,7 +21,10 @@ use Rattle.sig_nodes.specs.declared.answers.Asked.TheVariants.{Slot as SlotAsked
 use Rattle.sig_nodes.specs.declared.node.Node.{Node}
 use Rattle.sig_graph.specs.declared.reading.Onward.{Onward}
 use Rattle.sig_graph.specs.declared.reading.Onward.TheVariants as onward
+use Rattle.sig_graph.specs.declared.reading.Walked.{Walked}
+use Rattle.sig_graph.specs.declared.reading.Walked.TheVariants as walked
 use Rattle.sig_nodes.specs.Answers.{shown_here, slots_here, IsAnswerHere, IsAnswerOf}
+use Rattle.sig_nodes.specs.Reading.{IsNeeded}
 use Rattle.sig_graph.specs.Looks.{is_clean_mark}
 use Rattle.sig_nodes.specs.Nodes.{body_at, is_computed_body, known_body, shown_body}
 use Rattle.sig_graph.specs.States.{State, is_computing}
@@ -85,3 +94,19 @@ abbrev pub IsOnward : List Node → List Bool → Recipe → Onward → List Kno
 IsOnward xs marked c onward.Read known reads known' reads' o = ReadsNext xs marked c known reads known' reads'
 IsOnward xs marked c onward.Ended known reads known' reads' o = (known' ≡ known) × (reads' ≡ reads) × IsAnswerOf c known Ended o
 IsOnward xs marked c onward.Left known reads known' reads' o = (known' ≡ known) × (reads' ≡ reads)
+
+-- a recipe needs the slots that a part of its formula asks for
+abbrev pub AsksFor : Recipe → Tree → List Known → Type 0
+AsksFor c t known = (n : ℕ) → formula_step false t None known [] ≡ Ask n false → IsNeeded c known n
+
+-- what is told of a slot by its signal: the whole number that this is read as at once
+abbrev pub IsReadyPart : Part → List Node → List Bool → ℕ → Type 0
+IsReadyPart (part.Number m) xs marked n = IsReady xs marked n (value.Int m)
+IsReadyPart (part.Slot s) xs marked n = Unit {0}
+IsReadyPart part.Open xs marked n = Unit {0}
+
+-- what a walk over a formula comes to: where it has come to the formula's end, its outcome is the recipe's answer
+abbrev pub IsWalked : Walked → Recipe → List Known → Outcome → Type 0
+IsWalked walked.Ended c known o = IsAnswerOf c known Ended o
+IsWalked walked.Left c known o = Unit {0}
+IsWalked walked.Open c known o = Unit {0}

@@ -1,14 +1,22 @@
 // Reading a formula's slots in one go, as long as what it needs next is read without a look below.
-ghost use Rattle.std.specs.Prelude.{◌≡◌, ◌+◌, ◌≤◌, [], ◌++◌, ◌∷◌, length, true, IfOk, IfSome, OnOk, if◌then◌else◌};
+ghost use Rattle.std.specs.Prelude.{◌≡◌, ◌+◌, ◌≤◌, [], ◌++◌, ◌∷◌, length, false, true, None, IfOk, IfSome, OnOk, if◌then◌else◌};
 ghost use Rattle.sig_base.specs.declared.value.Outcome.{Outcome};
+ghost use Rattle.sig_base.specs.declared.value.Outcome.TheVariants.{Good};
+ghost use Rattle.sig_base.specs.declared.value.Value.TheVariants as value;
 ghost use Rattle.sig_nodes.specs.declared.answers.Asked.TheVariants.{Ended};
 ghost use Rattle.sig_nodes.specs.Answers.{IsAnswerOf};
-ghost use Rattle.sig_graph.specs.Reading.{HasReadHere, IsOnward, IsReady};
+ghost use Rattle.sig_graph.specs.Reading.{AsksFor, HasReadHere, IsOnward, IsReady, IsReadyPart, IsWalked};
 ghost use Rattle.sig_nodes.specs.Reading.{IsNeeded};
+ghost use Rattle.sig_formula.specs.Evaluation.{known_at};
+ghost use Rattle.sig_formula.specs.Operations.{IsPartTold};
+ghost use Rattle.sig_formula.specs.Programs.{decides};
+ghost use Rattle.sig_formula.specs.Trees as trees;
+ghost use Rattle.sig_formula.specs.Trees.{binary, tree};
+ghost use Rattle.signal_model.specs.Recipes as recipes;
 
 use crate::evaluation::counted;
 use sig_base::{Known, NoMemory, NodeId, Outcome, Value};
-use sig_formula::Told;
+use sig_formula::{BinOp, Formula, Part, Told, decides, operate_numbers, part_told};
 use sig_marks::Marks;
 use sig_nodes::{Body, Computation, Nodes, body_at};
 use sig_seats::push_in;
@@ -22,6 +30,17 @@ enum Onward {
     Ended,
     /// It is left to who settles what is below.
     Left,
+}
+
+/// What a formula comes to that is gone over once.
+#[derive(Clone, Copy)]
+enum Walked {
+    /// It came to its end.
+    Ended,
+    /// It needs a slot that is left to who settles what is below.
+    Left,
+    /// Nothing is told: it is to be asked for each slot.
+    Open,
 }
 
 // The value that a signal is read as at once: that of a cell, or the good one of a computed that is neither being evaluated nor marked.
@@ -47,14 +66,13 @@ fn learn(
     known: &mut Vec<Known>,
     reads: &mut Vec<NodeId>,
     slot: u32,
-    value: &Value,
+    value: Value,
     id: NodeId,
 ) -> Result<(), NoMemory>
-    ensures known { OnOk result (known.new.items ≡ known.old.items ++ (record { slot = slot; value = value.now }) ∷ []) }
+    ensures known { OnOk result (known.new.items ≡ known.old.items ++ (record { slot = slot; value = value }) ∷ []) }
     ensures reads { OnOk result (reads.new.items ≡ reads.old.items ++ id ∷ []) }
     ensures even { length known.new.items + length reads.old.items ≡ length known.old.items + length reads.new.items }
 {
-    let value = value.copy()?;
     known.reserve(1)?;
     reads.reserve(1)?;
     push_in(known, Known { slot, value });
@@ -82,6 +100,7 @@ fn read_slot(
     let Some(value) = ready_value(nodes, marks, id) else {
         return Ok(Onward::Left);
     };
+    let value = value.copy()?;
     learn(known, reads, slot, value, id)?;
     Ok(Onward::Read)
 }
@@ -106,9 +125,9 @@ fn read_next(
     }
 }
 
-/// Goes on with the evaluation of a formula as long as the slot that it needs next is read at once, and tells whether it came to its end:
-/// then its outcome stands in its place. Each answer that it goes on with is a counted step.
-pub(crate) fn read_slots(
+// The same for any formula of few operations, which is asked for each slot.
+#[inline(never)]
+fn read_anew(
     nodes: &Nodes,
     marks: &Marks,
     computation: &Computation,
@@ -135,4 +154,215 @@ pub(crate) fn read_slots(
         }
     }
     Ok(false)
+}
+
+// What is told of a slot by its signal: the whole number that this is read as at once; nothing where it is read as another value.
+#[inline(always)]
+fn ready_part(nodes: &Nodes, marks: &Marks, slot: u32, id: NodeId) -> Part
+    ensures { IsReadyPart result nodes.now.items marks.now.marked id }
+{
+    match ready_value(nodes, marks, id) {
+        Some(Value::Int(number)) => Part::Number(*number),
+        Some(_) => Part::Open,
+        None => Part::Slot(slot),
+    }
+}
+
+// Reads a slot that a part of a formula needs, where its signal is read at once as a whole number.
+#[inline(always)]
+fn read_number(
+    nodes: &Nodes,
+    marks: &Marks,
+    computation: &Computation,
+    slot: u32,
+    known: &mut Vec<Known>,
+    reads: &mut Vec<NodeId>,
+) -> Result<Part, NoMemory>
+    requires unknown { known_at slot known.old.items ≡ None }
+    requires needed { IsNeeded computation.now.recipe known.old.items slot }
+    ensures read { OnOk result (HasReadHere nodes.now.items marks.now.marked computation.now.recipe known.old.items reads.old.items known.new.items reads.new.items) }
+    ensures even { length known.new.items + length reads.old.items ≡ length known.old.items + length reads.new.items }
+    ensures part { IfOk result (λ p. IsPartTold p (trees.slot slot) known.new.items) }
+{
+    let Some(id) = computation.slot(slot) else {
+        return Ok(Part::Slot(slot));
+    };
+    match ready_part(nodes, marks, slot, id) {
+        Part::Number(number) => {
+            learn(known, reads, slot, Value::Int(number), id)?;
+            Ok(Part::Number(number))
+        }
+        Part::Slot(_) => Ok(Part::Slot(slot)),
+        Part::Open => Ok(Part::Open),
+    }
+}
+
+// What is told of a part of a formula, once the slot that it needs is read, where that is read at once.
+#[inline(always)]
+fn read_part(
+    nodes: &Nodes,
+    marks: &Marks,
+    computation: &Computation,
+    part: &Formula,
+    known: &mut Vec<Known>,
+    reads: &mut Vec<NodeId>,
+) -> Result<Part, NoMemory>
+    requires { AsksFor computation.now.recipe (tree part.now) known.old.items }
+    ensures read { OnOk result (HasReadHere nodes.now.items marks.now.marked computation.now.recipe known.old.items reads.old.items known.new.items reads.new.items) }
+    ensures even { length known.new.items + length reads.old.items ≡ length known.old.items + length reads.new.items }
+    ensures part { IfOk result (λ p. IsPartTold p (tree part.now) known.new.items) }
+{
+    let told = part_told(part, known);
+    match told {
+        Part::Slot(slot) => {
+            let read = read_number(nodes, marks, computation, slot, known, reads)?;
+            Ok(read)
+        }
+        _ => Ok(told),
+    }
+}
+
+// A whole number is what a formula comes to.
+#[inline(always)]
+fn put_number(number: i64, outcome: &mut Outcome)
+    ensures { outcome.new ≡ Good (value.Int number) }
+{
+    *outcome = Outcome::Good(Value::Int(number));
+}
+
+// Goes over a formula that is no operation.
+#[inline(always)]
+fn read_alone(
+    nodes: &Nodes,
+    marks: &Marks,
+    computation: &Computation,
+    formula: &Formula,
+    known: &mut Vec<Known>,
+    reads: &mut Vec<NodeId>,
+    outcome: &mut Outcome,
+) -> Result<Walked, NoMemory>
+    requires { computation.now.recipe.expression ≡ recipes.formula None (tree formula.now) }
+    ensures read { OnOk result (HasReadHere nodes.now.items marks.now.marked computation.now.recipe known.old.items reads.old.items known.new.items reads.new.items) }
+    ensures even { length known.new.items + length reads.old.items ≡ length known.old.items + length reads.new.items }
+    ensures walked { IfOk result (λ w. IsWalked w computation.now.recipe known.new.items outcome.new) }
+{
+    match read_part(nodes, marks, computation, formula, known, reads)? {
+        Part::Number(number) => {
+            put_number(number, outcome);
+            Ok(Walked::Ended)
+        }
+        Part::Slot(_) => Ok(Walked::Left),
+        Part::Open => Ok(Walked::Open),
+    }
+}
+
+// Goes over an operation between two parts of which the left one doesn't decide.
+#[inline(always)]
+fn read_pair(
+    nodes: &Nodes,
+    marks: &Marks,
+    computation: &Computation,
+    op: BinOp,
+    left: &Formula,
+    right: &Formula,
+    known: &mut Vec<Known>,
+    reads: &mut Vec<NodeId>,
+    outcome: &mut Outcome,
+) -> Result<Walked, NoMemory>
+    requires free { decides op ≡ false }
+    requires formula { computation.now.recipe.expression ≡ recipes.formula None (binary op (tree left.now) (tree right.now)) }
+    ensures read { OnOk result (HasReadHere nodes.now.items marks.now.marked computation.now.recipe known.old.items reads.old.items known.new.items reads.new.items) }
+    ensures even { length known.new.items + length reads.old.items ≡ length known.old.items + length reads.new.items }
+    ensures walked { IfOk result (λ w. IsWalked w computation.now.recipe known.new.items outcome.new) }
+{
+    let first = match read_part(nodes, marks, computation, left, known, reads)? {
+        Part::Number(number) => number,
+        Part::Slot(_) => return Ok(Walked::Left),
+        Part::Open => return Ok(Walked::Open),
+    };
+    match read_part(nodes, marks, computation, right, known, reads)? {
+        Part::Number(second) => {
+            if operate_numbers(op, first, second, outcome) {
+                return Ok(Walked::Ended);
+            }
+            Ok(Walked::Open)
+        }
+        Part::Slot(_) => Ok(Walked::Left),
+        Part::Open => Ok(Walked::Open),
+    }
+}
+
+// Goes over a formula once, and reads the slots that it needs where it comes to them: one that is a whole number, or an operation between
+// two such.
+#[inline(always)]
+fn walk(
+    nodes: &Nodes,
+    marks: &Marks,
+    computation: &Computation,
+    known: &mut Vec<Known>,
+    reads: &mut Vec<NodeId>,
+    outcome: &mut Outcome,
+) -> Result<Walked, NoMemory>
+    ensures read { OnOk result (HasReadHere nodes.now.items marks.now.marked computation.now.recipe known.old.items reads.old.items known.new.items reads.new.items) }
+    ensures even { length known.new.items + length reads.old.items ≡ length known.old.items + length reads.new.items }
+    ensures walked { IfOk result (λ w. IsWalked w computation.now.recipe known.new.items outcome.new) }
+{
+    let Some(formula) = computation.formula() else {
+        return Ok(Walked::Open);
+    };
+    match formula {
+        Formula::Bin(op, left, right) => {
+            if decides(*op) {
+                return Ok(Walked::Open);
+            }
+            read_pair(
+                nodes,
+                marks,
+                computation,
+                *op,
+                left,
+                right,
+                known,
+                reads,
+                outcome,
+            )
+        }
+        _ => read_alone(nodes, marks, computation, formula, known, reads, outcome),
+    }
+}
+
+// So many counted steps more.
+fn counted_by(looked: u128, more: usize) -> u128
+    ensures { result ≤ looked + more }
+{
+    looked.saturating_add(more as u128)
+}
+
+/// Goes on with the evaluation of a formula as long as the slot that it needs next is read at once, and tells whether it came to its end:
+/// then its outcome stands in its place. Each answer that it goes on with is a counted step.
+pub(crate) fn read_slots(
+    nodes: &Nodes,
+    marks: &Marks,
+    computation: &Computation,
+    known: &mut Vec<Known>,
+    reads: &mut Vec<NodeId>,
+    outcome: &mut Outcome,
+    looked: &mut u128,
+) -> Result<bool, NoMemory>
+    ensures read { OnOk result (HasReadHere nodes.now.items marks.now.marked computation.now.recipe known.old.items reads.old.items known.new.items reads.new.items) }
+    ensures even { length known.new.items + length reads.old.items ≡ length known.old.items + length reads.new.items }
+    ensures ended { IfOk result (λ e. e ≡ true → IsAnswerOf computation.now.recipe known.new.items Ended outcome.new) }
+    ensures steps { IfOk result (λ e. looked.new + length known.old.items ≤ looked.old + length known.new.items + (if e then 1 else 0)) }
+{
+    let before = known.len();
+    let walked = walk(nodes, marks, computation, known, reads, outcome)?;
+    *looked = counted_by(*looked, known.len() - before);
+    match walked {
+        Walked::Ended => {
+            *looked = counted(*looked);
+            Ok(true)
+        }
+        Walked::Left => Ok(false),
+        Walked::Open => read_anew(nodes, marks, computation, known, reads, outcome, looked),
+    }
 }

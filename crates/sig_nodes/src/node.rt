@@ -371,6 +371,17 @@ impl Computation {
         }
     }
 
+    /// The formula of the recipe, none where it asks a host formula.
+    #[inline(always)]
+    pub fn formula(&self) -> Option<&Formula>
+        ensures { IfSome result (λ f. self.now.recipe.expression ≡ recipes.formula None (tree f.now)) }
+    {
+        match &self.recipe {
+            Recipe::Formula(formula) => Some(formula),
+            Recipe::Host(_) => None,
+        }
+    }
+
     /// What is told at once of the recipe by the values known so far: nothing of a host formula.
     #[inline(always)]
     pub fn told(&self, known: &[Known], outcome: &mut Outcome) -> Result<Told, NoMemory>

@@ -1,26 +1,10 @@
-use Rattle.std.proofs.Common.{◌≡◌, ◌+◌, ◌≤◌, ◌∷◌, [], length, length-append, sym, ap, ◌∙◌, subst, arith}
-use Rattle.sig_graph.specs.declared.reading.Onward.{Onward}
-use Rattle.sig_graph.specs.Reading.{IsOnward}
-use Rattle.sig_graph.proofs.ReadOn.{counted_most, read_more}
+use Rattle.std.proofs.lemmas.Result.{on_ok_weaker}
+use Rattle.sig_graph.proofs.ReadOn.{read_both}
 use Rattle.sig_graph.proofs.reading.read_slots.Goals as goal
 
-pub loop-preserved : goal.loop-preserved
-loop-preserved c =
-    let xs = c.args.nodes.now.items in
-    let marked = c.args.marks.now.marked in
-    let r = c.args.computation.now.recipe in
-    let known = c.loop.known.items in
-    let known' = c.read_next.new.known.items in
-    let reads = c.loop.reads.items in
-    let reads' = c.read_next.new.reads.items in
-    let next = subst (λ (w : Onward). IsOnward xs marked r w known reads known' reads' c.read_next.new.outcome) c.in-Read.is c.in_ok-read_next.ensures.onward in
-    let even = c.loop.invariant.even in
-    let more = c.in_ok-read_next.ensures.even in
-    let steps = c.loop.invariant.steps in
-    let step : c.counted.result ≤ c.loop.looked + 1 = subst (λ n. n ≤ c.loop.looked + 1) (sym c.counted.ensures) (counted_most c.loop.looked) in
-    let one : length known' ≡ length known + 1 = ap length next.knows ∙ length-append known (next.read.known ∷ []) in
-    record {
-      read = read_more xs marked r c.args.known.now.items known known' c.args.reads.now.items reads reads' c.loop.invariant.read next;
-      even = omega (arith, even, more);
-      steps = omega (arith, steps, step, one);
-    }
+pub returns-in-Open-clause-read : goal.returns-in-Open-clause-read
+returns-in-Open-clause-read c =
+    on_ok_weaker c.read_anew.result
+    (λ h. read_both c.args.nodes.now.items c.args.marks.now.marked c.args.computation.now.recipe c.args.known.now.items c.walk.new.known.items
+    c.read_anew.new.known.items c.args.reads.now.items c.walk.new.reads.items c.read_anew.new.reads.items c.in_ok-walked.ensures.read h)
+    c.read_anew.ensures.read

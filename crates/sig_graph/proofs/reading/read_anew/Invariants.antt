@@ -1,6 +1,6 @@
 use Rattle.std.proofs.Common.{◌≡◌, ◌+◌, ◌≤◌, length}
 use Rattle.sig_graph.specs.Reading.{HasReadHere}
-use Rattle.sig_graph.proofs.reading.read_slots.Given as goal
+use Rattle.sig_graph.proofs.reading.read_anew.Given as goal
 
 abbrev pub invariant-loop : goal.invariant-loop
 invariant-loop l = record {
