@@ -66,7 +66,7 @@ pub(crate) fn lines_under(
     requires { length addresses.now ≤ length numbers.now }
     ensures { IfOk result (λ m. (k : ℕ) → line_in m k ≡ lined addresses.now numbers.now (λ j. None) k) }
 {
-    let mut lines = IndexMap::new(alloc);
+    let mut lines = IndexMap::with_capacity(alloc, addresses.len())?;
     note_under(&mut lines, addresses, numbers)?;
     Ok(lines)
 }

@@ -27,12 +27,13 @@ impl Drop for PageNodes {
 }
 
 impl PageNodes {
-    // A number, where a node of the page has it.
+    // The number that was noted of an address, where a node of the page has it. The node is looked for first where it stood the last time.
     fn if_there(&self, noted: Option<u64>) -> Option<u64>
         ensures { result ≡ if_there self.now.tree noted }
     {
         let number = noted?;
-        self.tree.child_count(number)?;
+        let place = self.tree.place(number, self.numbers.node_place())?;
+        self.numbers.node_stood(place);
         Some(number)
     }
     /// The number of the node of a line, in the row of that key; none where no node of the page has that address.

@@ -126,7 +126,7 @@ impl Numbers {
     {
         let (_, below) = numbers.split_at(1);
         let lines = lines_under(alloc, &addresses, below)?;
-        let mut all = IndexMap::new(alloc);
+        let mut all = IndexMap::with_capacity(alloc, addresses.len())?;
         let mut at = 1;
         for address in addresses {
             note(&mut all, address, numbers[at])?;
@@ -199,6 +199,14 @@ impl Numbers {
         let (place, _, number) = self.all.get_full(address)?;
         self.guess.found(place);
         Some(*number)
+    }
+    /// The likely place in the page's tree of the node whose number was told last.
+    pub(crate) fn node_place(&self) -> usize {
+        self.guess.node_place()
+    }
+    /// The node whose number was told last stands at this place of the page's tree.
+    pub(crate) fn node_stood(&self, place: usize) {
+        self.guess.node_stood(place);
     }
     /// The line that was noted of a number.
     pub fn line(&self, number: u64) -> Option<usize>

@@ -12,8 +12,8 @@ pub loop-address-init : goal.loop-address-init
 loop-address-init c =
     let g = ap length c.into_iter-address-iterator.ensures.into_iter_gives.0 in
     let r = c.requires in
-    none_noted c.into_iter-address-iterator.result.rest.items c.args.numbers.now (number_in c.new-all.result) (omega (arith, g, r))
-    (λ a. ap (lookup (same_address a)) c.new-all.ensures.empty)
+    none_noted c.into_iter-address-iterator.result.rest.items c.args.numbers.now (number_in c.in_ok-all.all) (omega (arith, g, r))
+    (λ a. ap (lookup (same_address a)) c.in_ok-all.ensures.empty)
 
 pub loop-address-preserved : goal.loop-address-preserved
 loop-address-preserved c =
