@@ -1,13 +1,13 @@
 -- The first names that were heard, so many of them.
-use Rattle.std.proofs.Common.{◌≡◌, ℕ, zero, suc, ◌+◌, false, Option, [], ◌∷◌, ◌++◌, nat_eq, slice_get, take, Some, None, eq-eqb, inl, inr, refl, sym, ap, subst, ◌∙◌}
+use Rattle.std.proofs.Common.{◌≡◌, ℕ, zero, suc, ◌+◌, false, Option, [], ◌∷◌, ◌++◌, nat_eq, slice_get, take, Some, None, refl, ap, subst, ◌∙◌}
 use Rattle.std.specs.Prelude.{unwrap_or}
 use Rattle.std.specs.List.{AllByRecursion, IsDistinct}
 use Rattle.std.specs.Map.{keys_of}
-use Rattle.std.proofs.lemmas.Bool.{cases_Bool, eqb-true, false≢true}
 use Rattle.std.proofs.lemmas.List.{take_more}
 use Rattle.std.proofs.lemmas.Option.{get_or_from_slice_get, slice_get_within}
 use Rattle.sig_base.specs.declared.value.Outcome.{Outcome}
 use Rattle.tpl_hearing.specs.Heard.{Outcomes, heard_of}
+use Rattle.tpl_hearing.proofs.Paired.{flipped}
 
 -- one more of them
 pub front_more : (before : Outcomes) (i n : ℕ) (o : Outcome) → slice_get before i ≡ Some (n, o) → take (i + 1) before ≡ take i before ++ (n, o) ∷ []
@@ -16,9 +16,6 @@ front_more before i n o e =
     ∙ ap (λ (p : ℕ × Outcome). take i before ++ p ∷ []) (get_or_from_slice_get before i (n, o) (n, o) e)
 
 -- ---- each name was heard once
-
-flipped : (m n : ℕ) → nat_eq m n ≡ false → nat_eq n m ≡ false
-flipped m n e = elim (cases_Bool (nat_eq n m)) [ inl t ↦ absurd (false≢true (sym e ∙ eq-eqb m n (sym (eqb-true n m t)))) | inr f ↦ f ]
 
 apart_from : (k : ℕ) (ps : Outcomes) (i n : ℕ) (o : Outcome) → AllByRecursion (λ m. nat_eq k m ≡ false) (keys_of ps) → slice_get ps i ≡ Some (n, o) →
     nat_eq k n ≡ false

@@ -3,6 +3,6 @@ mod Asks
 mod Compared
 mod HeardAgain
 mod Fronts
-mod Tabled
+mod Paired
 mod Unmoved
 pub mod Shared

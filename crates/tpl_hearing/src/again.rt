@@ -105,7 +105,8 @@ fn front(alloc: Global, before: &Outcomes, count: usize) -> Result<Rehearing, No
     ensures front { IfOk result (λ h. h.heard ≡ take count before.now) }
     ensures compared { IfOk result (λ h. AreCompared before.now h) }
 {
-    let mut hearing = Rehearing::with_room(alloc, before.count())?;
+    let _count = before.count();
+    let mut hearing = Rehearing::beside(alloc, before)?;
     for place in 0..count {
         let (id, outcome) = before.at(place);
         let outcome = outcome.copy()?;

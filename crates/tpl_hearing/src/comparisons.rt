@@ -13,6 +13,15 @@ use sig_host::{Lent, Shelf};
 use std::alloc::Global;
 use std::marker::Model;
 
+// It is noted that this is known of a name.
+#[inline(always)]
+fn note(noted: &mut Vec<(NodeId, bool)>, id: NodeId, same: bool) -> Result<(), NoMemory>
+    ensures { (before heard : Heard) → AllCompared before heard noted.old.items → IsCompared before heard id same → OnOk result (AllCompared before heard noted.new.items) }
+{
+    noted.push((id, same))?;
+    Ok(())
+}
+
 // It is noted up to a place that this is known of a name: it holds wherever it stands.
 fn fill(
     noted: &mut Vec<(NodeId, bool)>,
@@ -23,7 +32,7 @@ fn fill(
     ensures { (before heard : Heard) → AllCompared before heard noted.old.items → IsCompared before heard id same → OnOk result (AllCompared before heard noted.new.items) }
 {
     for _ in noted.len()..count {
-        noted.push((id, same))?;
+        note(noted, id, same)?;
     }
     Ok(())
 }
@@ -83,6 +92,10 @@ impl Comparisons {
     fn put(&mut self, place: usize, id: NodeId, same: bool) -> Result<(), NoMemory>
         ensures { (before heard : Heard) → AllCompared before heard self.old → IsCompared before heard id same → OnOk result (AllCompared before heard self.new) }
     {
+        if place == self.noted.len() {
+            note(&mut self.noted, id, same)?;
+            return Ok(());
+        }
         fill(&mut self.noted, place.saturating_add(1), id, same)?;
         Ok(())
     }
@@ -109,17 +122,17 @@ impl Rehearing {
         }
     }
 
-    /// Nothing was heard yet, and there is room for so many names.
+    /// Nothing was heard yet, and the names that were heard before are expected.
     ///
     /// # Errors
     ///
     /// `NoMemory` alone.
-    pub(crate) fn with_room(alloc: Global, count: usize) -> Result<Rehearing, NoMemory>
+    pub(crate) fn beside(alloc: Global, before: &Outcomes) -> Result<Rehearing, NoMemory>
         ensures heard { IfOk result (λ h. h.heard ≡ []) }
         ensures compared { IfOk result (λ h. h.compared ≡ []) }
     {
-        let heard = Outcomes::with_room(alloc, count)?;
-        let compared = Comparisons::with_room(alloc, count)?;
+        let heard = Outcomes::beside(alloc, before)?;
+        let compared = Comparisons::with_room(alloc, before.count())?;
         Ok(Rehearing { heard, compared })
     }
 

@@ -4,6 +4,7 @@
 mod again;
 mod comparisons;
 mod evaluation;
+mod name_list;
 mod outcomes;
 mod still;
 

@@ -1,14 +1,15 @@
 // What is heard of names while a page is brought up to date: each of them is settled once.
-ghost use Rattle.std.specs.Prelude.{◌≡◌, ◌<◌, ◌++◌, ◌∷◌, [], length, nat_eq, slice_get, true, None, Some, IfNone, IfOk, IfSome, OnOk, unwrap_or};
-ghost use Rattle.std.specs.List.{IsDistinct};
+ghost use Rattle.std.specs.Prelude.{◌≡◌, ◌<◌, ◌≤◌, ◌++◌, ◌∷◌, [], List, false, length, nat_eq, slice_get, take, true, None, Some, IfNone, IfOk, IfSome, OnOk, unwrap_or};
+ghost use Rattle.std.specs.List.{list_any, zip, AllByRecursion, IsDistinct};
 ghost use Rattle.std.specs.Map.{keys_of};
 ghost use Rattle.std.specs.Option.{option_copied};
+ghost use Rattle.sig_base.specs.declared.value.Outcome.{Outcome as AnOutcome};
 ghost use Rattle.sig_base.specs.declared.value.Outcome.TheVariants.{Good};
 ghost use Rattle.signal_laws.specs.ReadLaws.{with_name};
 ghost use Rattle.tpl_hearing.specs.Heard.{heard_of, scene, CanSettle, HasRows, HaveRows, Hears, Outcomes as Heard};
 
+use crate::name_list::NameList;
 use crate::still::stands_as;
-use indexmap::IndexMap;
 use sig_base::{NoMemory, NodeId, Outcome, Value};
 use sig_computed::{RunNote, settle};
 use sig_graph::Graph;
@@ -41,34 +42,62 @@ fn find_rows(outcome: &Outcome)
 }
 
 // So it is for each of some outcomes.
-fn find_all(outcomes: &IndexMap<NodeId, Outcome>)
-    ensures { HaveRows outcomes.now.entries }
+fn find_all(outcomes: &[Outcome])
+    ensures { AllByRecursion HasRows outcomes.now }
 {
-    for place in 0..outcomes.len() {
-        let Some((_, outcome)) = outcomes.get_index(place) else {
-            unreachable!();
-        };
+    for outcome in outcomes {
         find_rows(outcome);
     }
 }
 
+// The outcome at a place.
+fn outcome_at(outcomes: &[Outcome], place: usize) -> Option<&Outcome>
+    ensures { option_copied result ≡ slice_get outcomes.now place }
+{
+    outcomes.get(place)
+}
+
+// A name is the next one behind so many.
+fn expect(alloc: Global, names: &mut NameList, count: usize, id: NodeId) -> Result<(), NoMemory>
+    requires within { count ≤ length names.old }
+    requires new { list_any (nat_eq id) (take count names.old) ≡ false }
+    ensures within { count ≤ length names.new }
+    ensures more { OnOk result (count < length names.new) }
+    ensures pairs { OnOk result ((os : List AnOutcome) (o : AnOutcome) → length os ≡ count → zip names.new (os ++ o ∷ []) ≡ zip names.old os ++ (id, o) ∷ []) }
+{
+    if names.is_at(count, id) {
+        return Ok(());
+    }
+    names.put(alloc, count, id)?;
+    Ok(())
+}
+
 /// The names that were heard, in this order, and their outcomes.
 pub struct Outcomes {
-    outcomes: IndexMap<NodeId, Outcome>,
+    // the names that were heard, and behind them those that are expected next
+    names: NameList,
+    outcomes: Vec<Outcome>,
 }
 
 impl Drop for Outcomes {
     fn drop(self) {
-        let Outcomes { outcomes: _ } = self;
+        let Outcomes {
+            names: _,
+            outcomes: _,
+        } = self;
     }
 }
 
 impl Model for Outcomes {
-    ghost use Rattle.tpl_hearing.specs.Heard as names;
+    ghost use Rattle.std.specs.Prelude.{◌≤◌, length};
+    ghost use Rattle.std.specs.List.{zip};
+    ghost use Rattle.tpl_hearing.specs.Heard as hearing;
 
-    ghost Value = { names.Outcomes };
+    ghost Value = { hearing.Outcomes };
 
-    ghost view = { λ h. h.outcomes.entries };
+    ghost view = { λ h. zip h.names h.outcomes.items };
+
+    ghost invariant = { λ h. length h.outcomes.items ≤ length h.names };
 }
 
 impl Outcomes {
@@ -77,28 +106,30 @@ impl Outcomes {
         ensures { result ≡ [] }
     {
         Outcomes {
-            outcomes: IndexMap::new(alloc),
+            names: NameList::new(),
+            outcomes: Vec::new(alloc),
         }
     }
 
-    /// Nothing was heard, and there is room for so many names.
+    /// Nothing was heard, and the names that were heard before are expected, for each of which there is room.
     ///
     /// # Errors
     ///
     /// `NoMemory` alone.
-    pub(crate) fn with_room(alloc: Global, count: usize) -> Result<Outcomes, NoMemory>
+    pub(crate) fn beside(alloc: Global, before: &Outcomes) -> Result<Outcomes, NoMemory>
         ensures { IfOk result (λ h. h ≡ []) }
     {
-        let outcomes = IndexMap::with_capacity(alloc, count)?;
-        Ok(Outcomes { outcomes })
+        let names = before.names.copy()?;
+        let outcomes = Vec::with_capacity(alloc, before.outcomes.len())?;
+        Ok(Outcomes { names, outcomes })
     }
 
     // The outcome that was heard of a name.
     fn outcome(&self, id: NodeId) -> Result<Option<Outcome>, NoMemory>
         ensures { IfOk result (λ o. o ≡ heard_of self.now id) }
     {
-        match self.outcomes.get(&id) {
-            Some(outcome) => Ok(Some(outcome.copy()?)),
+        match self.find(id) {
+            Some((_, outcome)) => Ok(Some(outcome.copy()?)),
             None => Ok(None),
         }
     }
@@ -110,38 +141,61 @@ impl Outcomes {
         find_all(&self.outcomes);
     }
 
+    // Whether a name is the next one that is expected, and so wasn't heard.
+    fn is_next(&self, id: NodeId) -> bool
+        ensures { result ≡ true → heard_of self.now id ≡ None }
+    {
+        let _count = self.names.count();
+        self.names.is_at(self.outcomes.len(), id)
+    }
+
+    // Where a name was heard that isn't the next one, and the outcome that was heard of it.
+    fn find_listed(&self, id: NodeId) -> Option<(usize, &Outcome)>
+        ensures some { IfSome result (λ p. heard_of self.now id ≡ Some p.1.now) }
+        ensures none { IfNone result (heard_of self.now id ≡ None) }
+    {
+        let _count = self.names.count();
+        let Some(place) = self.names.place(id) else {
+            return None;
+        };
+        match outcome_at(&self.outcomes, place) {
+            Some(outcome) => Some((place, outcome)),
+            None => None,
+        }
+    }
+
     /// Where a name was heard, and the outcome that was heard of it.
     pub(crate) fn find(&self, id: NodeId) -> Option<(usize, &Outcome)>
         ensures some { IfSome result (λ p. heard_of self.now id ≡ Some p.1.now) }
         ensures none { IfNone result (heard_of self.now id ≡ None) }
     {
-        match self.outcomes.get_full(&id) {
-            Some((place, _, outcome)) => Some((place, outcome)),
-            None => None,
+        if self.is_next(id) {
+            return None;
         }
+        self.find_listed(id)
     }
 
     // The outcome that was heard at a place, where it is that of this name.
     fn here(&self, place: usize, id: NodeId) -> Option<&Outcome>
         ensures { IfSome result (λ o. heard_of self.now id ≡ Some o.now) }
     {
-        if place >= self.count() {
+        let _count = self.names.count();
+        if !self.names.is_at(place, id) {
             return None;
         }
-        let (name, outcome) = self.at(place);
-        if name == id {
-            return Some(outcome);
-        }
-        None
+        outcome_at(&self.outcomes, place)
     }
 
     /// The outcome that was heard of a name, which is looked for at a place first.
     pub(crate) fn near(&self, place: usize, id: NodeId) -> Option<&Outcome>
         ensures { option_copied result ≡ heard_of self.now id }
     {
-        match self.here(place, id) {
-            Some(outcome) => Some(outcome),
-            None => self.outcomes.get(&id),
+        if let Some(outcome) = self.here(place, id) {
+            return Some(outcome);
+        }
+        match self.find(id) {
+            Some((_, outcome)) => Some(outcome),
+            None => None,
         }
     }
 
@@ -149,8 +203,8 @@ impl Outcomes {
     pub(crate) fn had(&self, id: NodeId, outcome: &Outcome) -> bool
         ensures { result ≡ true → heard_of self.now id ≡ Some outcome.now }
     {
-        match self.outcomes.get(&id) {
-            Some(heard) => heard.same(outcome),
+        match self.find(id) {
+            Some((_, heard)) => heard.same(outcome),
             None => false,
         }
     }
@@ -160,6 +214,7 @@ impl Outcomes {
         ensures count { result ≡ length self.now }
         ensures once { IsDistinct nat_eq (keys_of self.now) }
     {
+        let _count = self.names.count();
         self.outcomes.len()
     }
 
@@ -169,10 +224,14 @@ impl Outcomes {
         ensures at { slice_get self.now place ≡ Some (result.0, result.1.now) }
         ensures heard { heard_of self.now result.0 ≡ Some result.1.now }
     {
-        let Some((id, outcome)) = self.outcomes.get_index(place) else {
+        let _count = self.names.count();
+        let Some(id) = self.names.at(place) else {
             unreachable!();
         };
-        (*id, outcome)
+        let Some(outcome) = outcome_at(&self.outcomes, place) else {
+            unreachable!();
+        };
+        (id, outcome)
     }
 
     /// Puts a name behind the others.
@@ -184,7 +243,9 @@ impl Outcomes {
         requires { heard_of self.old id ≡ None }
         ensures { OnOk result (self.new ≡ self.old ++ (id, outcome) ∷ []) }
     {
-        self.outcomes.insert(id, outcome)?;
+        let alloc = *self.outcomes.allocator();
+        expect(alloc, &mut self.names, self.outcomes.len(), id)?;
+        self.outcomes.push(outcome)?;
         Ok(())
     }
 }

@@ -6,7 +6,7 @@ use Rattle.tpl_hearing.proofs.again.front.Goals as goal
 pub put-requires : goal.put-requires
 put-requires c =
     subst (λ (h : Outcomes). heard_of h c.at-id.result.0 ≡ None) (sym c.loop-place.invariant.front)
-    (not_before c.args.before.now c.loop-place.place c.at-id.result.0 c.at-id.result.1.now c.count.ensures.once c.at-id.ensures.at)
+    (not_before c.args.before.now c.loop-place.place c.at-id.result.0 c.at-id.result.1.now c.count-count.ensures.once c.at-id.ensures.at)
 
 pub loop-place-preserved : goal.loop-place-preserved
 loop-place-preserved c =
