@@ -175,10 +175,13 @@ fn note_behind(nodes: &IndexMap<u64, Node>, near: usize, place: usize) {
 pub fn find_near(nodes: &IndexMap<u64, Node>, near: usize, id: u64) -> Option<(usize, &Node)>
     ensures { option_map (λ p. p.1.now) result ≡ get nat_eq nodes.now id }
 {
-    let Some((place, node)) = find_at(nodes, place_behind(nodes, near), id) else {
+    let likely = place_behind(nodes, near);
+    let Some((place, node)) = find_at(nodes, likely, id) else {
         return None;
     };
-    note_behind(nodes, near, place);
+    if place != likely {
+        note_behind(nodes, near, place);
+    }
     Some((place, node))
 }
 
