@@ -1,6 +1,7 @@
 mod Progresses
 mod Sources
 mod Leaves
+mod Flagged
 mod Looks
 mod Asides
 mod Wholes

@@ -1,6 +1,7 @@
 pub mod Notes
 pub mod Asked
 pub mod Lessons
+pub mod Flags
 pub mod Views
 pub mod Turns
 pub mod Reading
