@@ -13,8 +13,11 @@ use std::alloc::Global;
 use std::marker::Model;
 use std::mem;
 
-// How many hints there are: the place that was given last to a number with a remainder by this is told without the index.
+// How many hints there may be: the place that was given last to a number with a remainder by this is told without the index.
 const HINTS: usize = 32_768;
+
+// How many of them are made at once, since few numbers ask for few.
+const HINTS_AT_ONCE: usize = 1024;
 
 // A value and its number.
 #[derive(Drop)]
@@ -56,17 +59,22 @@ impl<T> Model for Store<T> {
 }
 
 // The hint that is a number's.
-fn hint_of(number: u128) -> usize {
+fn hint_of(number: u128) -> usize
+    ensures { result < HINTS }
+{
     (number % HINTS as u128) as usize
 }
 
-// Makes each hint, where there is none yet.
-fn fill_hints(hints: &mut Vec<usize>) -> Result<(), NoMemory> {
-    hints.resize(HINTS, 0)?;
+// Makes the hint of a number, and those before it, where there is none yet.
+fn fill_hints(hints: &mut Vec<usize>, number: u128) -> Result<(), NoMemory> {
+    let hint = hint_of(number);
+    if hint >= hints.len() {
+        hints.resize((hint / HINTS_AT_ONCE + 1) * HINTS_AT_ONCE, 0)?;
+    }
     Ok(())
 }
 
-// Makes a place the hint of a number, if there are hints.
+// Makes a place the hint of a number, if it has one.
 fn note_hint(hints: &mut [usize], number: u128, place: usize) {
     if let Some(hint) = hints.get_mut(hint_of(number)) {
         *hint = place;
@@ -330,12 +338,12 @@ impl<T> Store<T> {
         })
     }
 
-    // Makes the hints, where the next value doesn't come to the place that is its number.
+    // Makes the hint of the next number, where its value doesn't come to the place that is the number.
     fn ready_hints(&mut self) -> Result<(), NoMemory>
         ensures { self.new ≡ self.old }
     {
         if self.held.vacant_key() as u128 != self.made {
-            fill_hints(&mut self.hints)?;
+            fill_hints(&mut self.hints, self.made)?;
         }
         Ok(())
     }
