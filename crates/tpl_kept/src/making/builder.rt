@@ -11,8 +11,7 @@ ghost use Rattle.tpl_kept.specs.Heads.{last_read, met_fault, places_in, AreRows,
 use crate::listening::{listen, listen_all};
 use crate::making::head::{
     Head, Tried, Turn, any_fault, attempted, first_part, inner_of, last, lent_row, own_row,
-    place_behind, place_tried, places_inside, put_turn, rest_of, second_part, shows_first,
-    unless_ended,
+    place_behind, place_tried, places_inside, rest_of, second_part, shows_first, unless_ended,
 };
 use sig_base::{NoMemory, NodeId};
 use sig_computed::RunNote;
@@ -199,7 +198,7 @@ fn put_each(
     let later = put_each(
         alloc, graph, shelf, heard, rest, links, ends, behind, notes, after,
     )?;
-    put_turn(alloc, turn, done)?;
+    turn.put(alloc, done)?;
     let own = either_failed(met, later);
     let left = unless_ended(is_over(ends, own), others);
     let last = put_each(

@@ -44,13 +44,24 @@ pub struct Tried {
 
 /// The first of some lines while it is made: what is heard of it, whether that met a fault, where the lines inside it are made, and what is kept
 /// inside it and behind it so far.
-#[derive(Drop)]
 pub struct Turn {
     pub head: Head,
     pub failed: bool,
     pub places: Vec<Option<RowRef>>,
     pub inside: Vec<PageMemo>,
     pub later: Vec<PageMemo>,
+}
+
+impl Drop for Turn {
+    fn drop(self) {
+        let Turn {
+            head: _,
+            failed: _,
+            places: _,
+            inside: _,
+            later: _,
+        } = self;
+    }
 }
 
 /// Whether the first branch of a choice is shown.
@@ -326,22 +337,24 @@ pub(crate) fn close(
     }
 }
 
-/// Puts what is kept of lines behind what was kept, once all is made of them.
-///
-/// # Errors
-///
-/// `NoMemory` alone.
-pub fn put_turn(alloc: Global, turn: Turn, done: &mut Vec<PageMemo>) -> Result<(), NoMemory>
-    ensures { OnOk result (map kept done.new.items ≡ map kept done.old.items ++ closed turn.head (map kept turn.inside.items) (map kept turn.later.items) ∷ []) }
-{
-    let Turn {
-        head,
-        failed: _failed,
-        places: _places,
-        inside,
-        later,
-    } = turn;
-    let memo = close(alloc, head, inside, later)?;
-    done.push(memo)?;
-    Ok(())
+impl Turn {
+    /// Puts what is kept of lines behind what was kept, once all is made of them.
+    ///
+    /// # Errors
+    ///
+    /// `NoMemory` alone.
+    pub fn put(self, alloc: Global, done: &mut Vec<PageMemo>) -> Result<(), NoMemory>
+        ensures { OnOk result (map kept done.new.items ≡ map kept done.old.items ++ closed self.head (map kept self.inside.items) (map kept self.later.items) ∷ []) }
+    {
+        let Turn {
+            head,
+            failed: _failed,
+            places: _places,
+            inside,
+            later,
+        } = self;
+        let memo = close(alloc, head, inside, later)?;
+        done.push(memo)?;
+        Ok(())
+    }
 }

@@ -162,11 +162,11 @@ returns-clause-made g t c =
     let own : failed (closed turn.head is rs) ≡ c.either_failed-own.result = t'.met ∙ sym (c.either_failed-own.ensures ∙ (λ j. met j || later j)) in
     turn_made c.args.ends b c.args.links.now c.args.rows.now row c.in-Some.others.now c.unless_ended-left.result.now turn.head
     c.args.heard.now c.begin.new.heard c.put_each-3.new.heard c.put_each-4.new.heard c.put_each-5.new.heard is rs
-    (map kept c.args.done.now.items) (map kept c.put_turn.new.done.items) (map kept c.put_each-5.new.done.items) c.either_failed-own.result t'
+    (map kept c.args.done.now.items) (map kept c.put.new.done.items) (map kept c.put_each-5.new.done.items) c.either_failed-own.result t'
     c.in-Some.ensures.cases.0
     (grows_on c.args.heard.now c.put_each-2.new.heard c.begin.new.heard
     (grows_on c.args.heard.now c.put_each.new.heard c.put_each-2.new.heard p.after.grows q.after.grows) o.after.grows)
-    i.after.grows r.after.grows c.in_ok-put_turn.ensures own
+    i.after.grows r.after.grows c.in_ok-put.ensures own
     (c.unless_ended-left.ensures ∙ ap (λ z. unless_ended z c.in-Some.others.now) c.is_over-2.ensures) l.made
 
 pub returns-clause-told : goal.returns-clause-told
@@ -198,8 +198,8 @@ returns-clause-told g t c =
     opens c.shows_first.ensures c.inner_of-inner.ensures (c.deref.ensures.value ∙ o.places) c.rest_of-rest.ensures
     (c.is_over.ensures ∙ ap (λ z. c.args.ends && z) met) c.place_behind-behind.ensures none (ap (map kept) o.later) i.made r.made in
     let own : failed (closed turn.head is rs) ≡ c.either_failed-own.result = t'.met ∙ sym (c.either_failed-own.ensures ∙ (λ j. met j || later j)) in
-    told_more (map kept c.args.done.now.items) (map kept c.put_turn.new.done.items) (map kept c.put_each-5.new.done.items) (closed turn.head is rs) c.either_failed-own.result
-    c.in_ok-last.last c.either_failed.result c.in_ok-put_turn.ensures own l.told c.either_failed.ensures
+    told_more (map kept c.args.done.now.items) (map kept c.put.new.done.items) (map kept c.put_each-5.new.done.items) (closed turn.head is rs) c.either_failed-own.result
+    c.in_ok-last.last c.either_failed.result c.in_ok-put.ensures own l.told c.either_failed.ensures
 
 pub returns-clause-after : goal.returns-clause-after
 returns-clause-after g t c =
