@@ -11,6 +11,7 @@ ghost use Rattle.live_entries.specs.Printed.{line_of_why, printed, reads_text, r
 use crate::{
     Entry, FieldDetail, Label, LimitWord, NameList, PageBytes, PageOp, Reason, Refusal, Seen,
 };
+use html_out::put_bytes as put;
 use page_ops::op_line;
 use sig_base::{
     Fault, Name, NoMemory, Outcome, Text, Value, put_decimal, put_fault, put_quoted, put_value,
@@ -24,13 +25,6 @@ fn is_traced(entry: &Entry) -> bool
         entry,
         Entry::Run(..) | Entry::Effect(..) | Entry::Cleanup(_) | Entry::Gone(_) | Entry::Fired(..)
     )
-}
-
-fn put(out: &mut Vec<u8>, bytes: &[u8]) -> Result<(), NoMemory>
-    ensures { OnOk result (out.new.items ≡ out.old.items ++ bytes.now) }
-{
-    out.extend_from_slice(bytes)?;
-    Ok(())
 }
 
 // The word of a limit.
