@@ -3,6 +3,7 @@ pub mod Briefs
 pub mod Codes
 pub mod Grammar
 pub mod Items
+pub mod Known
 pub mod Refusals
 pub mod Views
 pub mod Words

@@ -1,6 +1,7 @@
 // Names that were read lately.
-ghost use Rattle.std.specs.Prelude.{◌≡◌, Some, IfOk, IfSome};
+ghost use Rattle.std.specs.Prelude.{◌≡◌, ◌++◌, None, Some, IfOk, IfSome, OnOk, replicate};
 ghost use Rattle.line_forms.specs.Reader.{name_of};
+ghost use Rattle.live_cmd.specs.Known.{KnowsNone};
 ghost use Rattle.sig_words.specs.Lexemes.{word};
 
 use line_forms::{Unread, as_name};
@@ -53,7 +54,9 @@ fn keep(names: &mut [Option<Name>], place: usize, name: &Name) -> Result<(), NoM
 }
 
 // So many more places, at which nothing is known.
-fn widen(names: &mut Vec<Option<Name>>, count: usize) -> Result<(), NoMemory> {
+fn widen(names: &mut Vec<Option<Name>>, count: usize) -> Result<(), NoMemory>
+    ensures { OnOk result (names.new.items ≡ names.old.items ++ replicate count None) }
+{
     for _ in 0..count {
         names.push(None)?;
     }
@@ -61,12 +64,14 @@ fn widen(names: &mut Vec<Option<Name>>, count: usize) -> Result<(), NoMemory> {
 }
 
 impl KnownNames {
-    /// No names.
+    /// A table in which no name is known.
     ///
     /// # Errors
     ///
     /// `NoMemory` where it finds no room.
-    pub fn new(alloc: Global) -> Result<KnownNames, NoMemory> {
+    pub fn new(alloc: Global) -> Result<KnownNames, NoMemory>
+        ensures { IfOk result KnowsNone }
+    {
         let mut names = Vec::new(alloc);
         widen(&mut names, FEWEST)?;
         Ok(KnownNames { names, missed: 0 })
