@@ -9,3 +9,4 @@ pub mod Nameless
 pub mod Silent
 pub mod Tables
 pub mod Turns
+pub mod Fronts

@@ -5,3 +5,4 @@ pub mod Listed
 pub mod Nameless
 pub mod Rounds
 pub mod Turns
+pub mod Fronts

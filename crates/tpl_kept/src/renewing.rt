@@ -1,4 +1,5 @@
 // What a page keeps of its lines, brought up to date by what changed.
+mod front;
 mod looking;
 mod names;
 mod parts;
@@ -9,5 +10,5 @@ mod silent;
 mod staying;
 mod update;
 
+pub use front::renew;
 pub use parts::Renewed;
-pub use update::renew;

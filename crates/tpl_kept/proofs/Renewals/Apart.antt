@@ -22,7 +22,7 @@ use Rattle.tpl_kept.specs.Turns.{WereEach, WasOpened, WasInside, WasBehind, Serv
 
 -- ---- of which kind
 
-abbrev kind : PageMemo → ℕ
+abbrev pub kind : PageMemo → ℕ
 kind unread = 0
 kind blank = 1
 kind (line h r) = 2
@@ -32,7 +32,7 @@ kind (loop h i r) = 5
 kind (either a b r) = 6
 kind m = 7
 
-abbrev block_kind : Block → ℕ
+abbrev pub block_kind : Block → ℕ
 block_kind empty = 1
 block_kind (text n f rest) = 2
 block_kind (tag n name xs inner rest) = 3
@@ -56,7 +56,7 @@ closed_kind (head.Choice h) is rs = refl
 closed_kind (head.Each h) is rs = refl
 closed_kind (head.Attempt x y) is rs = refl
 
-was_kind : (b : Block) (links : List ℕ) (row : Option RowRef) (before : Outcomes) (m : PageMemo) → WasMade (lines_memo b) links row before m →
+pub was_kind : (b : Block) (links : List ℕ) (row : Option RowRef) (before : Outcomes) (m : PageMemo) → WasMade (lines_memo b) links row before m →
     kind m ≡ block_kind b
 was_kind empty links row before m was = ap kind (was.is (outcome_in before) (in_agrees before) (any_here row) (any_row row))
 was_kind (text n f rest) links row before m was = ap kind (was.is (outcome_in before) (in_agrees before) (any_here row) (any_row row))

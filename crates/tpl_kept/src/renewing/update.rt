@@ -343,18 +343,13 @@ fn renew_each(
     Ok(())
 }
 
-/// Brings what a page keeps of these lines up to date, in the row where they stand, once one of its names has another outcome: it is what `make`
-/// would make. `before` are the outcomes on which it was made. A line whose names are as before isn't evaluated, the branch that was shown before is
-/// gone over again, a row that has its key and its values still keeps what was kept of it, and lines inside another one stay as they are where
-/// each of their names has the outcome of before: these are heard again first, unless it is known already that one of them hasn't. Where nothing is
-/// kept yet, all is made. Beside it comes what became of what was kept. What is kept now and what became of what was kept are told apart; the other
-/// clauses are what each hearing asks for and gives back, of graph, shelf and comparisons, and that the row and what was kept belong to these
-/// lines.
+/// Brings what is kept of lines up to date, once one of their names has another outcome, from the first of them on. Its clauses are those of the call
+/// that passes over the lines before the first one that has changed.
 ///
 /// # Errors
 ///
 /// `NoMemory` alone; names may then have been settled.
-pub fn renew(
+pub(crate) fn renew_on(
     alloc: Global,
     graph: &mut Graph,
     shelf: &mut Shelf,

@@ -8,7 +8,7 @@ use Rattle.tpl_kept.proofs.Made.Memos.{alone_from, own_is}
 use Rattle.tpl_model.specs.KeptLines.Changes.{changed}
 use Rattle.tpl_kept.proofs.Renewals.Changes.{one_told}
 use Rattle.tpl_kept.proofs.Renewals.Turns.{alone_was}
-use Rattle.tpl_kept.proofs.renewing.update.renew.Goals as goal
+use Rattle.tpl_kept.proofs.renewing.update.renew_on.Goals as goal
 
 pub renew_each-requires-clause-rows : goal.renew_each-requires-clause-rows
 renew_each-requires-clause-rows g c =
