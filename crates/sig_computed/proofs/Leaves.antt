@@ -28,6 +28,13 @@ kind_computed IsGone b k = cc
 kind_computed (IsCell c) b k = cc
 kind_computed (IsComputed c) b k = refl
 
+-- and the other way round, where it isn't being evaluated
+pub idle_kind : (st : Stands) (b : Bool) → is_computed st ≡ true → b ≡ false → Computed ≡ kind_here st b
+idle_kind IsGone b h q = cc
+idle_kind (IsCell c) b h q = cc
+idle_kind (IsComputed c) true h q = cc
+idle_kind (IsComputed c) false h q = refl
+
 -- a computed that isn't being evaluated is ready where it was visited
 pub ready_computed : (st : Stands) (b e v : Bool) → Computed ≡ kind_here st b → e ≡ b → v ≡ is_ready st e v
 ready_computed IsGone b e v k same = cc

@@ -1,5 +1,5 @@
 -- A look at the sources from a place on, and what it counts.
-use Rattle.std.proofs.Common.{◌≡◌, ℕ, zero, suc, ◌+◌, ◌≤◌, ◌==◌, ◌||◌, inl, inr, true≢false, Bool, true, false, cond, List, [], ◌∷◌, ◌++◌, Some, None, map, refl, sym, ap, ◌∙◌, subst, arith}
+use Rattle.std.proofs.Common.{◌≡◌, ℕ, zero, suc, ◌+◌, ◌≤◌, ◌==◌, ◌||◌, inl, inr, true≢false, Bool, true, false, cond, List, [], ◌∷◌, ◌++◌, Option, Some, None, map, refl, sym, ap, ◌∙◌, subst, arith}
 use Rattle.std.specs.Prelude.{◌^◌, is_some, nat_lt, slice_get}
 use Rattle.std.proofs.lemmas.Bool.{eqb-true, eq-eqb}
 use Rattle.std.proofs.lemmas.List.Elements.{All-append, All-cons, All-nil}
@@ -17,10 +17,12 @@ use Rattle.sig_computed.specs.Steps.{LookedAt, Move, Needs, Stops, Waiting, deci
 use Rattle.sig_computed.specs.Skips.{clean_among, compare_steps, look_steps, passed_over, source_steps}
 use Rattle.sig_computed.proofs.Skips.{among_clean, clean_found}
 use Rattle.sig_graph.specs.Looks.{is_clean_mark}
+use Rattle.sig_graph.specs.SourceLooks.{IsReadySource}
 use Rattle.sig_graph.specs.States as states
 use Rattle.sig_graph.specs.States.{Progress, is_given, progress_at}
 use Rattle.sig_computed.specs.Views.{first_moved, first_name, evaluating, or_cycle, passing, Stays}
 use Rattle.sig_computed.specs.Turns.{AreReadsGiven, move_reads, waits}
+use Rattle.sig_computed.proofs.Progresses.{in_evaluating}
 
 -- what stands at a place is among the others
 pub in_at : (ns : List ℕ) (i n : ℕ) → slice_get ns i ≡ Some n → is_in n ns ≡ true
@@ -95,6 +97,48 @@ over_clean w k visited n live off = go (is_clean_mark (mark_of w k n)) refl
         let d = there (standing w n) refl live in
         e ∙ sym (in_over ∙ clean_found w k w.computeds n d.0 (stands-computed w n d.0 d.1) e)
     go false e = e ∙ sym (in_over ∙ none e (is_in n (clean_among w k w.computeds)) refl)
+
+-- what is clean may be passed over
+over_cleaned : (w : Signals) (k : Memos) (visited : List ℕ) (n : ℕ) → is_computed (standing w n) ≡ true → is_clean_mark (mark_of w k n) ≡ true →
+    is_in n (passed_over w k visited) ≡ true
+over_cleaned w k visited n live clean = go (is_in n visited) refl
+  where
+    go : (b : Bool) → is_in n visited ≡ b → is_in n (passed_over w k visited) ≡ true
+    go true e = over_visited w k visited n e
+    go false e = sym (over_clean w k visited n live e) ∙ clean
+
+-- a source that needs no settling is ready
+pub source_ready : (s : states.State) (visited : List ℕ) (id : ℕ) (o : Option Source) (moved : Bool) (r : IsReadySource s id o moved) →
+    is_ready (standing s.signals r.name) (is_in r.name (evaluating s)) (is_in r.name (passed_over s.signals s.memos visited)) ≡ true
+source_ready s visited id o moved r = go (standing s.signals r.name) refl
+  where
+    by : (b : Bool) → states.is_computing s r.name ≡ b → is_computed (standing s.signals r.name) ≡ true →
+        (is_in r.name (evaluating s) || is_in r.name (passed_over s.signals s.memos visited)) ≡ true
+    by true e live = or_left (is_in r.name (evaluating s)) (is_in r.name (passed_over s.signals s.memos visited)) (in_evaluating s r.name ∙ e)
+    by false e live =
+        or_right (is_in r.name (evaluating s)) (is_in r.name (passed_over s.signals s.memos visited))
+        (over_cleaned s.signals s.memos visited r.name live (r.ready live e))
+
+    go : (st : Stands) → standing s.signals r.name ≡ st → is_ready st (is_in r.name (evaluating s)) (is_in r.name (passed_over s.signals s.memos visited)) ≡ true
+    go IsGone e = refl
+    go (IsCell c) e = refl
+    go (IsComputed c) e = by (states.is_computing s r.name) refl (ap is_computed e)
+
+-- what counts one step counts no more than the look at a source that was compared
+pub stays_source : (g h : states.Seen) (visited : List ℕ) (l : List Source) (id : ℕ) (mv : Move) → Some id ≡ first_name l → compare_steps mv ≡ 1 →
+    Stays g h g.state.progress 1 → Stays g h g.state.progress (source_steps g.state.signals (evaluating g.state) visited l mv)
+stays_source g h visited l id mv e one s =
+    let steps = s.steps in
+    let is = steps_look g.state.signals g.state.memos (evaluating g.state) [] visited false 0 l id mv e in
+    record {
+      signals = s.signals;
+      memos = s.memos;
+      progress = s.progress;
+      worn = s.worn;
+      seats = s.seats;
+      given = s.given;
+      steps = omega (arith, steps, is, one);
+    }
 
 -- at the beginning
 pub first_ready : (w : Signals) (k : Memos) (n : ℕ) → is_computed (standing w n) ≡ true → is_ready (standing w n) false (is_in n (passed_over w k [])) ≡ is_clean_mark (mark_of w k n)

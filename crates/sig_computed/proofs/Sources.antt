@@ -1,18 +1,26 @@
 -- The kept source at a place.
-use Rattle.std.proofs.Common.{◌≡◌, ℕ, zero, suc, ◌<◌, List, [], ◌∷◌, drop, length, get_or, Some, refl, sym, ap, arith}
+use Rattle.std.proofs.Common.{◌≡◌, ℕ, zero, suc, ◌+◌, ◌<◌, List, [], ◌∷◌, drop, length, Some, refl, sym, ap, arith}
 use Rattle.std.specs.Prelude.{◌||◌, slice_get}
-use Rattle.signal_model.specs.Memos.{Source, source_names, differs}
+use Rattle.signal_model.specs.Memos.{Source, differs}
 use Rattle.sig_graph.specs.States.{State}
 use Rattle.sig_graph.specs.Looks.{has_moved}
+use Rattle.sig_graph.specs.SourceLooks.{named}
 use Rattle.sig_computed.specs.Views.{evaluating, first_name, first_moved}
 use Rattle.sig_computed.proofs.Progresses.{in_evaluating}
 
 -- its name
-pub at_place : (ss : List Source) (i : ℕ) → i < length (source_names ss) → (x : ℕ) →
-    Some (get_or (source_names ss) i x) ≡ first_name (drop i ss)
-at_place [] i lt x = absurd (omega arith)
-at_place (s ∷ ss) zero lt x = refl
-at_place (s ∷ ss) (suc i) lt x = let less : i < length (source_names ss) = omega arith in at_place ss i less x
+pub name_at : (ss : List Source) (i : ℕ) → named (slice_get ss i) ≡ first_name (drop i ss)
+name_at [] zero = refl
+name_at [] (suc i) = refl
+name_at (s ∷ ss) zero = refl
+name_at (s ∷ ss) (suc i) = name_at ss i
+
+-- where it has one, the place is inside
+pub named_inside : (ss : List Source) (i n : ℕ) → named (slice_get ss i) ≡ Some n → i < length ss
+named_inside [] zero n h = cc
+named_inside [] (suc i) n h = cc
+named_inside (s ∷ ss) zero n h = omega arith
+named_inside (s ∷ ss) (suc i) n h = let l : i < length ss = named_inside ss i n h in omega arith
 
 -- whether it has moved
 pub moved_at : (s : State) (ss : List Source) (i : ℕ) → has_moved s (slice_get ss i) ≡ first_moved s.memos (evaluating s) (drop i ss)

@@ -1,14 +1,16 @@
 // One step of a frame: a look at a kept source, an answer of the recipe, or a slot that was waited for.
-ghost use Rattle.std.specs.Prelude.{◌≡◌, ◌<◌, ℕ, [], true, false, List, Some, None, IfOk, IfSome, OnOk, drop, length, slice_index};
+ghost use Rattle.std.specs.Prelude.{◌≡◌, ◌<◌, ℕ, [], true, false, List, Some, None, IfOk, OnOk, drop, length, slice_get, slice_index};
 ghost use Rattle.signal_model.specs.Recipes.{Hosts, IsJudged};
 ghost use Rattle.signal_model.specs.Signals.{is_computed, is_in, standing};
 ghost use Rattle.signal_model.specs.Memos.{holds_cycle, sources_of};
 ghost use Rattle.signal_model.specs.Marks.{mark_of};
 ghost use Rattle.sig_computed.specs.Skips.{compare_steps, look_steps, passed_over, source_steps};
 ghost use Rattle.signal_model.specs.Sound.{standing_outcome};
-ghost use Rattle.sig_nodes.specs.Answers.{answer_here, host_here, slots_here};
+ghost use Rattle.sig_nodes.specs.declared.answers.Standing.TheVariants.{Computed};
+ghost use Rattle.sig_nodes.specs.Answers.{answer_here, host_here, kind_here, slots_here};
 ghost use Rattle.sig_graph.specs.Looks.{is_clean_mark};
-ghost use Rattle.sig_graph.specs.States.{is_given, progress_at};
+ghost use Rattle.sig_graph.specs.SourceLooks.{IsReadySource};
+ghost use Rattle.sig_graph.specs.States.{is_computing, is_given, progress_at};
 ghost use Rattle.sig_nodes.specs.Computations.{GoesOn};
 ghost use Rattle.sig_computed.specs.Reading.{HasEnded, HasGoneOn, HasTurned};
 ghost use Rattle.sig_computed.specs.Steps.{answered, decided, is_ready, looked, ready_outcome, slot_read};
@@ -19,7 +21,7 @@ ghost use Rattle.sig_computed.specs.Turns.{move_by, move_reads, progress_by, tur
 use crate::frames::{Doing, Open, Turn, begin_run};
 use crate::visited::Visited;
 use sig_base::{Known, NoMemory, NodeId, Outcome, Step};
-use sig_graph::{Asked, Graph, Standing};
+use sig_graph::{Asked, Graph, SourceLook, Standing};
 use sig_host::{Lent, Shelf};
 use signal_model::judged;
 use std::alloc::Global;
@@ -33,9 +35,33 @@ pub(crate) fn is_clean(graph: &mut Graph, id: NodeId) -> bool
     graph.is_clean(id)
 }
 
+// Whether a computed that isn't being evaluated needs no settling first: it was visited, or is clean. Where it is known that it isn't clean
+// it needs no look.
+fn is_settled(
+    graph: &mut Graph,
+    visited: &mut Visited,
+    id: NodeId,
+    due: bool,
+) -> Result<bool, NoMemory>
+    requires idle { Computed ≡ kind_here (standing graph.old.state.signals id) (is_computing graph.old.state id) }
+    requires unclean { due ≡ true → is_clean_mark (mark_of graph.old.state.signals graph.old.state.memos id) ≡ false }
+    ensures ready { IfOk result (λ b. b ≡ is_ready (standing graph.old.state.signals id) (is_in id (evaluating graph.old.state)) (is_in id (passed_over graph.old.state.signals graph.old.state.memos visited.old))) }
+    ensures after { OnOk result (Stays graph.old graph.new graph.old.state.progress (look_steps (standing graph.old.state.signals id) (is_in id (evaluating graph.old.state)) (is_in id visited.old))) }
+    ensures visited { OnOk result ((m : ℕ) → is_in m visited.new ≡ is_in m visited.old) }
+{
+    let has = visited.has(id)?;
+    if has {
+        return Ok(true);
+    }
+    if due {
+        graph.count_step();
+        return Ok(false);
+    }
+    Ok(is_clean(graph, id))
+}
+
 // Whether a source needs no settling first: it is no computed, is being evaluated, was visited, or is clean. What was settled just now needs
 // no look at all.
-#[inline(always)]
 fn is_ready(graph: &mut Graph, visited: &mut Visited, id: NodeId) -> Result<bool, NoMemory>
     ensures ready { IfOk result (λ b. b ≡ is_ready (standing graph.old.state.signals id) (is_in id (evaluating graph.old.state)) (is_in id (passed_over graph.old.state.signals graph.old.state.memos visited.old))) }
     ensures after { OnOk result (Stays graph.old graph.new graph.old.state.progress (look_steps (standing graph.old.state.signals id) (is_in id (evaluating graph.old.state)) (is_in id visited.old))) }
@@ -45,31 +71,28 @@ fn is_ready(graph: &mut Graph, visited: &mut Visited, id: NodeId) -> Result<bool
         return Ok(true);
     }
     match graph.standing(id) {
-        Standing::Computed => {
-            let has = visited.has(id)?;
-            if has {
-                return Ok(true);
-            }
-            Ok(is_clean(graph, id))
-        }
+        Standing::Computed => is_settled(graph, visited, id, false),
         _ => Ok(true),
     }
 }
 
-// The kept source at a place, none past the last.
-fn source_at(graph: &Graph, node: NodeId, place: usize) -> Option<NodeId>
-    ensures name { result ≡ first_name (drop place (sources_of graph.now.state.memos node)) }
-    ensures inside { IfSome result (λ n. place < length (sources_of graph.now.state.memos node)) }
-    ensures small { IfSome result (λ n. place < 18446744073709551615) }
+// A frame goes on once a source is ready: its computed runs where that has moved, and else looks at the next.
+fn go_on(frame: &mut Open, place: usize, moved: bool) -> Turn
+    requires { place < 18446744073709551615 }
+    ensures turn { move_of result frame.new ≡ decided false moved place }
+    ensures id { frame.new.id ≡ frame.old.id }
+    ensures given { move_reads (move_of result frame.new) ≡ [] }
+    ensures steps { compare_steps (move_of result frame.new) ≡ 1 }
 {
-    let names = graph.sources(node);
-    if place < names.len() {
-        return Some(names[place]);
+    if moved {
+        begin_run(frame);
+        return Turn::GoesOn;
     }
-    None
+    frame.doing = Doing::Looking(place + 1);
+    Turn::GoesOn
 }
 
-// A source that is ready decides whether the computed runs, or looks at the next.
+// A source that is ready is compared, and decides.
 fn decide(graph: &mut Graph, frame: &mut Open, place: usize) -> Turn
     requires inside { place < length (sources_of graph.old.state.memos frame.old.id) }
     requires small { place < 18446744073709551615 }
@@ -78,12 +101,51 @@ fn decide(graph: &mut Graph, frame: &mut Open, place: usize) -> Turn
     ensures given { move_reads (move_of result frame.new) ≡ [] }
     ensures after { Stays graph.old graph.new graph.old.state.progress (compare_steps (move_of result frame.new)) }
 {
-    if graph.compare(frame.id, place) {
-        begin_run(frame);
-        return Turn::GoesOn;
+    let moved = graph.compare(frame.id, place);
+    go_on(frame, place, moved)
+}
+
+// A look into a computed among the kept sources that isn't being evaluated. Its clauses are those of any look, beside what is known of the
+// computed.
+fn look_into(
+    graph: &mut Graph,
+    visited: &mut Visited,
+    frame: &mut Open,
+    place: usize,
+    id: NodeId,
+    due: bool,
+) -> Result<Turn, NoMemory>
+    requires name { Some id ≡ first_name (drop place (sources_of graph.old.state.memos frame.old.id)) }
+    requires inside { place < length (sources_of graph.old.state.memos frame.old.id) }
+    requires small { place < 18446744073709551615 }
+    requires idle { Computed ≡ kind_here (standing graph.old.state.signals id) (is_computing graph.old.state id) }
+    requires unclean { due ≡ true → is_clean_mark (mark_of graph.old.state.signals graph.old.state.memos id) ≡ false }
+    ensures turn { IfOk result (λ t. move_of t frame.new ≡ looked graph.old.state.signals graph.old.state.memos (evaluating graph.old.state) (passed_over graph.old.state.signals graph.old.state.memos visited.old) (holds_cycle graph.old.state.memos frame.old.id) place (drop place (sources_of graph.old.state.memos frame.old.id))) }
+    ensures id { OnOk result (frame.new.id ≡ frame.old.id) }
+    ensures given { IfOk result (λ t. move_reads (move_of t frame.new) ≡ []) }
+    ensures after { IfOk result (λ t. Stays graph.old graph.new graph.old.state.progress (source_steps graph.old.state.signals (evaluating graph.old.state) visited.old (drop place (sources_of graph.old.state.memos frame.old.id)) (move_of t frame.new))) }
+    ensures visited { OnOk result ((m : ℕ) → is_in m visited.new ≡ is_in m visited.old) }
+{
+    let ready = is_settled(graph, visited, id, due)?;
+    if !ready {
+        frame.doing = Doing::LookedAt(place);
+        frame.needed = id;
+        return Ok(Turn::Needs);
     }
-    frame.doing = Doing::Looking(place + 1);
-    Turn::GoesOn
+    Ok(decide(graph, frame, place))
+}
+
+// A source that needs no settling, and of which is known whether it has moved, decides.
+fn compared(graph: &mut Graph, frame: &mut Open, place: usize, moved: bool) -> Turn
+    requires small { place < 18446744073709551615 }
+    requires source { IsReadySource graph.old.state frame.old.id (slice_get (sources_of graph.old.state.memos frame.old.id) place) moved }
+    ensures turn { (visited : List ℕ) → move_of result frame.new ≡ looked graph.old.state.signals graph.old.state.memos (evaluating graph.old.state) (passed_over graph.old.state.signals graph.old.state.memos visited) (holds_cycle graph.old.state.memos frame.old.id) place (drop place (sources_of graph.old.state.memos frame.old.id)) }
+    ensures id { frame.new.id ≡ frame.old.id }
+    ensures given { move_reads (move_of result frame.new) ≡ [] }
+    ensures after { (visited : List ℕ) → Stays graph.old graph.new graph.old.state.progress (source_steps graph.old.state.signals (evaluating graph.old.state) visited (drop place (sources_of graph.old.state.memos frame.old.id)) (move_of result frame.new)) }
+{
+    graph.count_step();
+    go_on(frame, place, moved)
 }
 
 // A look at the kept sources from a place on.
@@ -100,16 +162,12 @@ fn look(
     ensures after { IfOk result (λ t. Stays graph.old graph.new graph.old.state.progress (source_steps graph.old.state.signals (evaluating graph.old.state) visited.old (drop place (sources_of graph.old.state.memos frame.old.id)) (move_of t frame.new))) }
     ensures visited { OnOk result ((m : ℕ) → is_in m visited.new ≡ is_in m visited.old) }
 {
-    let Some(id) = source_at(graph, frame.id, place) else {
-        return Ok(Turn::Stops);
-    };
-    let ready = is_ready(graph, visited, id)?;
-    if !ready {
-        frame.doing = Doing::LookedAt(place);
-        frame.needed = id;
-        return Ok(Turn::Needs);
+    match graph.look_at_source(frame.id, place) {
+        SourceLook::Past => Ok(Turn::Stops),
+        SourceLook::Due(id) => look_into(graph, visited, frame, place, id, true),
+        SourceLook::Marked(id) => look_into(graph, visited, frame, place, id, false),
+        SourceLook::Ready(moved) => Ok(compared(graph, frame, place, moved)),
     }
-    Ok(decide(graph, frame, place))
 }
 
 /// What a source that is ready is read as.

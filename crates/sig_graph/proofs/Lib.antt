@@ -6,6 +6,7 @@ mod ReachedSeats
 mod Walks
 mod HostUse
 mod ReadOn
+mod KeptLooks
 pub mod Shared
 mod Seated
 mod MarkedStates

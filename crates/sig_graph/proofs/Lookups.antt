@@ -68,13 +68,15 @@ holder_lives xs t gen w s None h e = tt
 holder_lives xs t gen w s (Some n) h e = live_here xs n ∙ (h.living s n (sym e)).0
 
 -- whether a source has moved
+pub moved_any : (xs : List Node) (g l w : ℕ) (o : Option Source) → has_moved_body xs o ≡ has_moved (state_of xs g l w) o
+moved_any xs g l w None = refl
+moved_any xs g l w (Some s) = ap (λ m. not (same_number m s.number) || is_some (known_body (body_at xs s.name))) (sym (number_found xs g s.name))
+    ∙ ap (λ k. not (same_number (number_of (memos_of g xs) s.name) s.number) || is_some k) (sym (progress_found xs s.name))
+
+-- the same of the one at a place
 pub moved_found : (xs : List Node) (g l w n place : ℕ) → has_moved_body xs (slice_get (sources_in (memo_body (body_at xs n))) place) ≡ has_moved (state_of xs g l w) (slice_get (sources_of (memos_of g xs) n) place)
-moved_found xs g l w n place = ap (λ m. has_moved_body xs (slice_get (sources_in m) place)) (sym (memo_found xs g n)) ∙ go (slice_get (sources_of (memos_of g xs) n) place)
-  where
-    go : (o : Option Source) → has_moved_body xs o ≡ has_moved (state_of xs g l w) o
-    go None = refl
-    go (Some s) = ap (λ m. not (same_number m s.number) || is_some (known_body (body_at xs s.name))) (sym (number_found xs g s.name))
-        ∙ ap (λ k. not (same_number (number_of (memos_of g xs) s.name) s.number) || is_some k) (sym (progress_found xs s.name))
+moved_found xs g l w n place =
+    ap (λ m. has_moved_body xs (slice_get (sources_in m) place)) (sym (memo_found xs g n)) ∙ moved_any xs g l w (slice_get (sources_of (memos_of g xs) n) place)
 
 -- the value of a cell
 pub value_found : (xs : List Node) (n : ℕ) → value_here (standing (signals_of xs) n) ≡ value_body (body_at xs n)

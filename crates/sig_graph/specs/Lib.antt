@@ -1,6 +1,7 @@
 pub mod States
 pub mod StateMarks
 pub mod Looks
+pub mod SourceLooks
 pub mod Reading
 pub mod HostUse
 pub mod Parts

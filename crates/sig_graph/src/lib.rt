@@ -13,8 +13,10 @@ mod queries;
 mod reading;
 mod search;
 mod search_marks;
+mod source_looks;
 mod spares;
 
 pub use errors::NodeFault;
 pub use graph::Graph;
 pub use sig_nodes::{Asked, IdList, Mark, Recipe, Standing};
+pub use source_looks::SourceLook;

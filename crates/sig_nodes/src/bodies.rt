@@ -267,7 +267,8 @@ pub fn read_at(nodes: &Nodes, id: NodeId) -> (Option<u128>, bool)
     }
 }
 
-fn same_number(a: Option<u128>, b: Option<u128>) -> bool
+/// Whether two change numbers, none of what is gone, are the same.
+pub(crate) fn same_number(a: Option<u128>, b: Option<u128>) -> bool
     ensures { result ≡ same_number a b }
 {
     match (a, b) {
@@ -284,8 +285,8 @@ pub fn differs(nodes: &Nodes, source: Source) -> bool
     !same_number(number_at(nodes, source.name), source.number)
 }
 
-// Whether a node has another number than the one that was read of it, or is computing.
-fn node_moved(node: &Node, number: Option<u128>) -> bool
+/// Whether a node has another number than the one that was read of it, or is computing.
+pub(crate) fn node_moved(node: &Node, number: Option<u128>) -> bool
     ensures { result ≡ (not (same_number (number_body node.now.number node.now.body) number) || is_some (known_body node.now.body)) }
 {
     !same_number(number_of(node), number) || is_computing(&node.body)

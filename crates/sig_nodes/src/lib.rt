@@ -4,6 +4,7 @@
 mod answers;
 mod bodies;
 mod id_lists;
+mod moved;
 mod node;
 mod nodes;
 mod store;

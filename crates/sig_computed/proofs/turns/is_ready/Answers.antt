@@ -1,10 +1,10 @@
-use Rattle.std.proofs.Common.{cond, refl, sym, ap, ◌∙◌, subst}
+use Rattle.std.proofs.Common.{refl, ◌∙◌}
 use Rattle.signal_model.specs.Signals.{standing, is_in}
 use Rattle.sig_graph.specs.States.{is_computing}
 use Rattle.sig_computed.specs.Skips.{look_steps, passed_over}
-use Rattle.sig_computed.specs.Views.{evaluating, Stays}
-use Rattle.sig_computed.proofs.Leaves.{kind_computed, ready_computed, ready_other, ready_visited}
-use Rattle.sig_computed.proofs.Looks.{over_clean, over_visited, stays_here}
+use Rattle.sig_computed.specs.Views.{evaluating}
+use Rattle.sig_computed.proofs.Leaves.{ready_other, ready_visited}
+use Rattle.sig_computed.proofs.Looks.{over_visited, stays_here}
 use Rattle.sig_computed.proofs.Progresses.{in_evaluating}
 use Rattle.sig_computed.proofs.turns.is_ready.Goals as goal
 
@@ -18,33 +18,6 @@ returns-then-is_last c =
       after = stays_here c.args.graph.now (look_steps (standing s.signals c.args.id) (is_in c.args.id (evaluating s)) (is_in c.args.id visited));
       visited = λ m. refl;
     }
-
-pub returns-then-has-clause-ready : goal.returns-then-has-clause-ready
-returns-then-has-clause-ready c =
-    let s = c.args.graph.now.state in
-    let visited = c.args.visited.now in
-    sym (over_visited s.signals s.memos visited c.args.id (sym (sym c.if-has.true ∙ c.in_ok-has-in-Computed.ensures.has)))
-    ∙ ready_computed (standing s.signals c.args.id) (is_computing s c.args.id) (is_in c.args.id (evaluating s))
-    (is_in c.args.id (passed_over s.signals s.memos visited)) c.in-Computed.ensures (in_evaluating s c.args.id)
-
-pub returns-else-has-clause-ready : goal.returns-else-has-clause-ready
-returns-else-has-clause-ready c =
-    let s = c.args.graph.now.state in
-    let visited = c.args.visited.now in
-    c.is_clean.ensures.clean
-    ∙ over_clean s.signals s.memos visited c.args.id (kind_computed (standing s.signals c.args.id) (is_computing s c.args.id) c.in-Computed.ensures)
-    (sym (sym c.if-has.false ∙ c.in_ok-has-in-Computed.ensures.has))
-    ∙ ready_computed (standing s.signals c.args.id) (is_computing s c.args.id) (is_in c.args.id (evaluating s))
-    (is_in c.args.id (passed_over s.signals s.memos visited)) c.in-Computed.ensures (in_evaluating s c.args.id)
-
-pub returns-else-has-clause-after : goal.returns-else-has-clause-after
-returns-else-has-clause-after c =
-    let s = c.args.graph.now.state in
-    let visited = c.args.visited.now in
-    let off = (sym c.if-has.false ∙ c.in_ok-has-in-Computed.ensures.has)
-    ∙ ready_computed (standing s.signals c.args.id) (is_computing s c.args.id) (is_in c.args.id (evaluating s))
-    (is_in c.args.id visited) c.in-Computed.ensures (in_evaluating s c.args.id) in
-    subst (Stays c.args.graph.now c.is_clean.new.graph s.progress) (ap (λ b. cond b 0 1) off) c.is_clean.ensures.after
 
 pub returns-in_default : goal.returns-in_default
 returns-in_default c =

@@ -1,0 +1,145 @@
+// One look at a source that a computed keeps: at the computed's node, and at the source's.
+ghost use Rattle.std.specs.Prelude.{◌≡◌, ℕ, ◌&&◌, not, List, Option, Some, true, false, is_some, slice_get};
+ghost use Rattle.signal_model.specs.Memos.{Memo, memo_is_cycle, sources_in, sources_of};
+ghost use Rattle.sig_marks.specs.Tables.{marked_at};
+ghost use Rattle.sig_seats.specs.Found.{found_at};
+ghost use Rattle.sig_nodes.specs.declared.node.Body.TheVariants as body;
+ghost use Rattle.sig_nodes.specs.declared.node.Node.{Node};
+ghost use Rattle.sig_nodes.specs.Nodes.{body_at, has_moved_body, is_computed_body, known_body};
+ghost use Rattle.sig_graph.specs.Places.{KeepsFound};
+ghost use Rattle.sig_graph.specs.SourceLooks.{HasNextPlace, IsLookHere, IsSourceLook};
+ghost use Rattle.sig_graph.specs.States.{with_look, Becomes};
+
+use crate::evaluation::counted;
+use crate::graph::Graph;
+use sig_base::NodeId;
+use sig_marks::Marks;
+use sig_nodes::{Body, Computation, Node, Nodes, Source, computation_at};
+use sig_seats::Finds;
+
+/// What a look at a source that a computed keeps finds.
+#[derive(Clone, Copy)]
+pub enum SourceLook {
+    /// No source is left.
+    Past,
+    /// A computed that isn't being evaluated, and of which a search has found that it isn't clean.
+    Due(NodeId),
+    /// A computed that isn't being evaluated, and is marked.
+    Marked(NodeId),
+    /// Any other, which needs no settling, and whether it has moved.
+    Ready(bool),
+}
+
+// Whether a computed lives in a node that isn't being evaluated.
+fn is_idle(node: &Node) -> bool
+    ensures { result ≡ (is_computed_body node.now.body && not (is_some (known_body node.now.body))) }
+{
+    match &node.body {
+        Body::Computed(computation) => !computation.is_computing(),
+        _ => false,
+    }
+}
+
+// Whether it is one of which a search has found at this count of changes that it, or something below it, must run.
+fn is_found(finds: &Finds, worn: u128, node: &Node) -> bool
+    ensures idle { result ≡ true → (is_computed_body node.now.body && not (is_some (known_body node.now.body))) ≡ true }
+    ensures found { result ≡ true → found_at finds.now node.now.seat ≡ worn }
+{
+    is_idle(node) && finds.is_found(worn, node.seat)
+}
+
+// Whether it is one that is marked.
+fn is_open(marks: &Marks, node: &Node, id: NodeId) -> bool
+    ensures { result ≡ ((is_computed_body node.now.body && not (is_some (known_body node.now.body))) && marked_at marks.now.marked id) }
+{
+    is_idle(node) && marks.is_marked(id)
+}
+
+// Whether a source has moved, where who keeps it doesn't hold `cycle`.
+fn has_moved(node: &Node, cycle: bool, source: Source) -> bool
+    ensures { (xs : List Node) → slice_get xs source.name ≡ Some node.now → result ≡ (not cycle && has_moved_body xs (Some source)) }
+{
+    !cycle && source.has_moved(node)
+}
+
+// The same of one that is gone.
+fn has_gone(cycle: bool, source: Source) -> bool
+    ensures { (xs : List Node) → body_at xs source.name ≡ body.Gone → result ≡ (not cycle && has_moved_body xs (Some source)) }
+{
+    !cycle && source.has_gone()
+}
+
+// What a look at the node of a source finds.
+fn node_look(
+    nodes: &Nodes,
+    marks: &Marks,
+    finds: &Finds,
+    worn: u128,
+    cycle: bool,
+    source: Source,
+) -> SourceLook
+    ensures { (g : ℕ) (m : Option Memo) → KeepsFound nodes.now.items g worn finds.now → memo_is_cycle m ≡ cycle → IsLookHere nodes.now.items marks.now.marked g m (Some source) result }
+{
+    let id = source.name();
+    let Some(node) = nodes.at(id) else {
+        return SourceLook::Ready(has_gone(cycle, source));
+    };
+    if is_found(finds, worn, node) {
+        return SourceLook::Due(id);
+    }
+    if is_open(marks, node, id) {
+        return SourceLook::Marked(id);
+    }
+    SourceLook::Ready(has_moved(node, cycle, source))
+}
+
+// What a look at the source that a computed keeps at a place finds.
+fn place_look(
+    nodes: &Nodes,
+    marks: &Marks,
+    finds: &Finds,
+    worn: u128,
+    computation: &Computation,
+    place: usize,
+) -> SourceLook
+    ensures look { (g : ℕ) → KeepsFound nodes.now.items g worn finds.now → IsLookHere nodes.now.items marks.now.marked g computation.now.memo (slice_get (sources_in computation.now.memo) place) result }
+    ensures next { HasNextPlace place result }
+{
+    let _count = computation.sources().len();
+    match computation.source(place) {
+        Some(source) => node_look(nodes, marks, finds, worn, computation.holds_cycle(), source),
+        None => SourceLook::Past,
+    }
+}
+
+impl Graph {
+    /// Looks at the source that a computed keeps at a place. One that is no computed, is being evaluated or isn't marked needs no settling, and is
+    /// compared with what was read of it. Of any other computed it tells whether a search has found that it isn't clean. It is no
+    /// counted step, and takes no memory.
+    pub fn look_at_source(&self, id: NodeId, place: usize) -> SourceLook
+        ensures look { IsSourceLook self.now.state id (slice_get (sources_of self.now.state.memos id) place) result }
+        ensures next { HasNextPlace place result }
+    {
+        let _count = self.nodes.made();
+        match computation_at(&self.nodes, id) {
+            Some(computation) => place_look(
+                &self.nodes,
+                &self.marks,
+                &self.finds,
+                self.worn,
+                computation,
+                place,
+            ),
+            None => SourceLook::Past,
+        }
+    }
+
+    /// One counted step.
+    pub fn count_step(&mut self)
+        ensures after { Becomes self.old self.new (with_look self.old.state) }
+        ensures seats { self.new.seats ≡ self.old.seats }
+    {
+        let _count = self.nodes.made();
+        self.looked = counted(self.looked);
+    }
+}
