@@ -14,6 +14,7 @@ use crate::nodes::Nodes;
 use sig_base::{Fault, NoMemory, NodeId, Outcome, Value};
 
 /// What lives at a place, none past the last place.
+#[inline(always)]
 pub fn body_at(nodes: &Nodes, id: NodeId) -> Option<&Body>
     ensures some { IfSome result (λ b. b.now ≡ body_at nodes.now.items id) }
     ensures none { IfNone result (body_at nodes.now.items id ≡ body.Gone) }
@@ -25,6 +26,7 @@ pub fn body_at(nodes: &Nodes, id: NodeId) -> Option<&Body>
 }
 
 /// The computed that lives there.
+#[inline(always)]
 pub fn computation_at(nodes: &Nodes, id: NodeId) -> Option<&Computation>
     ensures some { IfSome result (λ c. body_at nodes.now.items id ≡ body.Computed c.now) }
     ensures none { IfNone result (is_computed_body (body_at nodes.now.items id) ≡ false) }

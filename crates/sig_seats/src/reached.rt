@@ -27,6 +27,7 @@ impl Model for Reached {
 }
 
 /// Puts last, in room that is there.
+#[inline(always)]
 pub fn push_in<T: Drop>(all: &mut Vec<T>, one: T)
     requires { vec_len all.old < vec_capacity all.old }
     ensures items { all.new.items ≡ all.old.items ++ one ∷ [] }
