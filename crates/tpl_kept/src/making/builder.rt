@@ -10,8 +10,8 @@ ghost use Rattle.tpl_kept.specs.Heads.{last_read, met_fault, places_in, AreRows,
 
 use crate::listening::{listen, listen_all};
 use crate::making::head::{
-    Head, Tried, Turn, any_fault, attempted, first_part, inner_of, last, lent_row, own_row,
-    place_behind, place_tried, places_inside, rest_of, second_part, shows_first, unless_ended,
+    Head, Tried, Turn, any_fault, first_part, inner_of, last, lent_row, own_row, place_behind,
+    place_tried, places_inside, rest_of, second_part, shows_first, unless_ended,
 };
 use sig_base::{NoMemory, NodeId};
 use sig_computed::RunNote;
@@ -84,7 +84,7 @@ fn hear_first(
         }
         Block::Attempt(_, _, _) => {
             let failed = tried.failed;
-            let head = attempted(alloc, tried)?;
+            let head = tried.head(alloc)?;
             Ok((head, failed))
         }
     }
@@ -167,21 +167,18 @@ fn put_each(
     };
     let at = place_tried(lines, row);
     let front = first_part(lines);
-    let mut first = Vec::new(alloc);
+    let mut tried = Tried::new(alloc);
+    let first = &mut tried.first;
     let ended = put_each(
-        alloc, graph, shelf, heard, front, links, true, at, notes, &mut first,
+        alloc, graph, shelf, heard, front, links, true, at, notes, first,
     )?;
     let at = unless_ended(!ended, at);
     let back = second_part(lines);
-    let mut other = Vec::new(alloc);
+    let second = &mut tried.second;
     let failed = put_each(
-        alloc, graph, shelf, heard, back, links, ends, at, notes, &mut other,
+        alloc, graph, shelf, heard, back, links, ends, at, notes, second,
     )?;
-    let tried = Tried {
-        first,
-        second: other,
-        failed,
-    };
+    tried.failed = failed;
     let mut turn = begin(
         alloc, graph, shelf, heard, lines, links, ends, row, tried, notes,
     )?;

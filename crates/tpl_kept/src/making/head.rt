@@ -35,11 +35,34 @@ pub enum Head {
 
 /// What is kept of both parts of what is tried, before its line is put together, and whether a line of the second met a fault; nothing of any other
 /// line.
-#[derive(Drop)]
 pub struct Tried {
     pub first: Vec<PageMemo>,
     pub second: Vec<PageMemo>,
     pub failed: bool,
+}
+
+impl Drop for Tried {
+    fn drop(self) {
+        let Tried {
+            first: _,
+            second: _,
+            failed: _,
+        } = self;
+    }
+}
+
+impl Tried {
+    /// Nothing is kept of either part.
+    pub fn new(alloc: Global) -> Tried
+        ensures first { result.first.items ≡ [] }
+        ensures second { result.second.items ≡ [] }
+    {
+        Tried {
+            first: Vec::new(alloc),
+            second: Vec::new(alloc),
+            failed: false,
+        }
+    }
 }
 
 /// The first of some lines while it is made: what is heard of it, whether that met a fault, where the lines inside it are made, and what is kept
@@ -286,17 +309,24 @@ fn last_read(memos: Vec<PageMemo>) -> PageMemo
     }
 }
 
-/// What is tried, by what is kept of both of its parts.
-///
-/// # Errors
-///
-/// `NoMemory` alone.
-pub(crate) fn attempted(alloc: Global, tried: Tried) -> Result<Head, NoMemory>
-    ensures { IfOk result (λ h. IsAttempted h (map kept tried.first.items) (map kept tried.second.items)) }
-{
-    let first = Box::new(alloc, last(tried.first))?;
-    let second = Box::new(alloc, last_read(tried.second))?;
-    Ok(Head::Attempt(first, second))
+impl Tried {
+    /// What is tried, by what is kept of both of its parts.
+    ///
+    /// # Errors
+    ///
+    /// `NoMemory` alone.
+    pub(crate) fn head(self, alloc: Global) -> Result<Head, NoMemory>
+        ensures { IfOk result (λ h. IsAttempted h (map kept self.first.items) (map kept self.second.items)) }
+    {
+        let Tried {
+            first,
+            second,
+            failed: _failed,
+        } = self;
+        let first = Box::new(alloc, last(first))?;
+        let second = Box::new(alloc, last_read(second))?;
+        Ok(Head::Attempt(first, second))
+    }
 }
 
 /// What is kept of lines, by what is kept inside the first of them and behind it.

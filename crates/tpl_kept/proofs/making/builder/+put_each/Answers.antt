@@ -48,13 +48,13 @@ begin-requires-clause-told g t c =
     let b = block c.args.lines.now in
     let p = c.in_ok-ended.ensures in
     let q = c.in_ok-failed.ensures in
-    let nil = ap (map kept) c.new-other.ensures.items in
+    let nil = ap (map kept) c.new-tried.ensures.second in
     both_told c.args.ends b c.args.links.now c.in-Some.row.now c.args.heard.now c.put_each.new.heard c.put_each-2.new.heard c.in_ok-ended.ended
-    (map kept c.put_each.new.done.items) (map kept c.new-other.result.items) (map kept c.put_each-2.new.done.items) c.in_ok-failed.failed
+    (map kept c.put_each.new.done.items) (map kept c.new-tried.result.second.items) (map kept c.put_each-2.new.done.items) c.in_ok-failed.failed
     (both_made c.args.ends b (block c.first_part-front.result.now) (block c.second_part-back.result.now) c.args.links.now c.in-Some.row.now c.place_tried-at.result.now
-    c.unless_ended-at.result.now c.args.heard.now c.put_each.new.heard c.put_each-2.new.heard c.in_ok-ended.ended (map kept c.new-first.result.items)
-    (map kept c.put_each.new.done.items) (map kept c.new-other.result.items) (map kept c.put_each-2.new.done.items) c.first_part-front.ensures c.second_part-back.ensures
-    c.place_tried-at.ensures c.unless_ended-at.ensures (ap (map kept) c.new-first.ensures.items) nil p.made p.told q.made q.after.grows)
+    c.unless_ended-at.result.now c.args.heard.now c.put_each.new.heard c.put_each-2.new.heard c.in_ok-ended.ended (map kept c.new-tried.result.first.items)
+    (map kept c.put_each.new.done.items) (map kept c.new-tried.result.second.items) (map kept c.put_each-2.new.done.items) c.first_part-front.ensures c.second_part-back.ensures
+    c.place_tried-at.ensures c.unless_ended-at.ensures (ap (map kept) c.new-tried.ensures.first) nil p.made p.told q.made q.after.grows)
     nil q.told
 
 -- ---- the first line, what is inside it and behind it, and the other rows
@@ -71,9 +71,9 @@ put_each-requires-3 g t c =
     let opens : Opens c.args.ends b c.args.links.now row c.args.heard.now c.begin.new.heard turn.head =
     begun c.args.ends b (block c.first_part-front.result.now) (block c.second_part-back.result.now) c.args.links.now row c.place_tried-at.result.now
     c.unless_ended-at.result.now c.args.heard.now c.put_each.new.heard c.put_each-2.new.heard c.begin.new.heard c.in_ok-ended.ended
-    (map kept c.new-first.result.items) (map kept c.put_each.new.done.items) (map kept c.new-other.result.items) (map kept c.put_each-2.new.done.items) turn.head
-    c.first_part-front.ensures c.second_part-back.ensures c.place_tried-at.ensures c.unless_ended-at.ensures (ap (map kept) c.new-first.ensures.items)
-    (ap (map kept) c.new-other.ensures.items) p.made p.told q.made q.after.grows o.opens in
+    (map kept c.new-tried.result.first.items) (map kept c.put_each.new.done.items) (map kept c.new-tried.result.second.items) (map kept c.put_each-2.new.done.items) turn.head
+    c.first_part-front.ensures c.second_part-back.ensures c.place_tried-at.ensures c.unless_ended-at.ensures (ap (map kept) c.new-tried.ensures.first)
+    (ap (map kept) c.new-tried.ensures.second) p.made p.told q.made q.after.grows o.opens in
     let same : c.deref.result.now ≡ places_in c.args.ends turn.head row = c.deref.ensures.value ∙ o.places in
     let few : length c.deref.result.now < 2 ^ 64 = omega arith in
     let rows : AreRows c.deref.result.now = subst AreRows (sym same) (inside_are c.args.ends turn.head row (subst AreRows first c.requires.rows).0) in
@@ -96,9 +96,9 @@ put_each-requires-4 g t c =
     let opens : Opens c.args.ends b c.args.links.now row c.args.heard.now c.begin.new.heard turn.head =
     begun c.args.ends b (block c.first_part-front.result.now) (block c.second_part-back.result.now) c.args.links.now row c.place_tried-at.result.now
     c.unless_ended-at.result.now c.args.heard.now c.put_each.new.heard c.put_each-2.new.heard c.begin.new.heard c.in_ok-ended.ended
-    (map kept c.new-first.result.items) (map kept c.put_each.new.done.items) (map kept c.new-other.result.items) (map kept c.put_each-2.new.done.items) turn.head
-    c.first_part-front.ensures c.second_part-back.ensures c.place_tried-at.ensures c.unless_ended-at.ensures (ap (map kept) c.new-first.ensures.items)
-    (ap (map kept) c.new-other.ensures.items) p.made p.told q.made q.after.grows o.opens in
+    (map kept c.new-tried.result.first.items) (map kept c.put_each.new.done.items) (map kept c.new-tried.result.second.items) (map kept c.put_each-2.new.done.items) turn.head
+    c.first_part-front.ensures c.second_part-back.ensures c.place_tried-at.ensures c.unless_ended-at.ensures (ap (map kept) c.new-tried.ensures.first)
+    (ap (map kept) c.new-tried.ensures.second) p.made p.told q.made q.after.grows o.opens in
     let h = turn.head in
     let i = c.in_ok-inside.ensures in
     let over = c.is_over.result in
@@ -142,9 +142,9 @@ returns-clause-made g t c =
     let opens : Opens c.args.ends b c.args.links.now row c.args.heard.now c.begin.new.heard turn.head =
     begun c.args.ends b (block c.first_part-front.result.now) (block c.second_part-back.result.now) c.args.links.now row c.place_tried-at.result.now
     c.unless_ended-at.result.now c.args.heard.now c.put_each.new.heard c.put_each-2.new.heard c.begin.new.heard c.in_ok-ended.ended
-    (map kept c.new-first.result.items) (map kept c.put_each.new.done.items) (map kept c.new-other.result.items) (map kept c.put_each-2.new.done.items) turn.head
-    c.first_part-front.ensures c.second_part-back.ensures c.place_tried-at.ensures c.unless_ended-at.ensures (ap (map kept) c.new-first.ensures.items)
-    (ap (map kept) c.new-other.ensures.items) p.made p.told q.made q.after.grows o.opens in
+    (map kept c.new-tried.result.first.items) (map kept c.put_each.new.done.items) (map kept c.new-tried.result.second.items) (map kept c.put_each-2.new.done.items) turn.head
+    c.first_part-front.ensures c.second_part-back.ensures c.place_tried-at.ensures c.unless_ended-at.ensures (ap (map kept) c.new-tried.ensures.first)
+    (ap (map kept) c.new-tried.ensures.second) p.made p.told q.made q.after.grows o.opens in
     let i = c.in_ok-inside.ensures in
     let r = c.in_ok-later.ensures in
     let l = c.in_ok-last.ensures in
@@ -180,9 +180,9 @@ returns-clause-told g t c =
     let opens : Opens c.args.ends b c.args.links.now row c.args.heard.now c.begin.new.heard turn.head =
     begun c.args.ends b (block c.first_part-front.result.now) (block c.second_part-back.result.now) c.args.links.now row c.place_tried-at.result.now
     c.unless_ended-at.result.now c.args.heard.now c.put_each.new.heard c.put_each-2.new.heard c.begin.new.heard c.in_ok-ended.ended
-    (map kept c.new-first.result.items) (map kept c.put_each.new.done.items) (map kept c.new-other.result.items) (map kept c.put_each-2.new.done.items) turn.head
-    c.first_part-front.ensures c.second_part-back.ensures c.place_tried-at.ensures c.unless_ended-at.ensures (ap (map kept) c.new-first.ensures.items)
-    (ap (map kept) c.new-other.ensures.items) p.made p.told q.made q.after.grows o.opens in
+    (map kept c.new-tried.result.first.items) (map kept c.put_each.new.done.items) (map kept c.new-tried.result.second.items) (map kept c.put_each-2.new.done.items) turn.head
+    c.first_part-front.ensures c.second_part-back.ensures c.place_tried-at.ensures c.unless_ended-at.ensures (ap (map kept) c.new-tried.ensures.first)
+    (ap (map kept) c.new-tried.ensures.second) p.made p.told q.made q.after.grows o.opens in
     let i = c.in_ok-inside.ensures in
     let r = c.in_ok-later.ensures in
     let l = c.in_ok-last.ensures in

@@ -1,6 +1,6 @@
 use Rattle.std.proofs.Common.{ap, refl, ◌∙◌}
 use Rattle.tpl_model.specs.KeptLines.Kept.{kept}
-use Rattle.tpl_kept.proofs.making.head.attempted.Goals as goal
+use Rattle.tpl_kept.proofs.making.head.Tried.head.Goals as goal
 
 pub returns : goal.returns
 returns c =
