@@ -182,6 +182,14 @@ pages_steps hosts later m new entries next s parts pages = record {
   sound = subst (λ (x : Machine). IsSound hosts later x.world) (sym parts) s.sound;
 }
 
+-- the same, where another list of events is kept
+pub steps_beside : (hosts : Hosts) (later : List HostPlace) (m new : Machine) (entries : List Entry) (next : plain.Told) →
+    Steps hosts later m entries next → new ≡ record m { events = new.events } → Steps hosts later new entries next
+steps_beside hosts later m new entries next s beside = record {
+  step = ap (λ (x : Machine). reached (plain_of later x) entries) beside ∙ s.step;
+  sound = subst (λ (x : Machine). IsSound hosts later x.world) (sym beside) s.sound;
+}
+
 -- what is told of an act, and one entry behind it
 pub then_told : (hosts : Hosts) (later : List HostPlace) (m : Machine) (es : List Entry) (x y : Entry) (entries : List Entry) (next : plain.Told) →
     Steps hosts later m es next → x ≡ y → entries ≡ es ++ x ∷ [] → Steps hosts later m entries (reached next.machine (next.entries ++ y ∷ []))
@@ -265,6 +273,24 @@ pub leaves_acted : (asked later : List HostPlace) (rules : ℕ) (m : Machine) (w
     (AreRuled rules m.world.graph.state.signals → AreRuled rules w.graph.state.signals) →
     weight w ≤ weight m.world + 2 ^ 80 → Leaves asked later rules m (with_world m w l j)
 leaves_acted asked later rules m w l j r keeps stays tables batch agrees ruled few = leaves_batched asked later rules m w l j m.batch r keeps stays tables batch agrees ruled few
+
+-- so it is where another list of events is kept
+pub leaves_beside : (asked later : List HostPlace) (rules : ℕ) (old m new : Machine) → Leaves asked later rules old m → new ≡ record m { events = new.events } →
+    Leaves asked later rules old new
+leaves_beside asked later rules old m new l beside = subst (λ (x : Machine). Leaves asked later rules old x) (sym beside) (record {
+  ready = record {
+    watchers = l.ready.watchers;
+    paged = l.ready.paged;
+    meant = l.ready.meant;
+    templates = l.ready.templates;
+    handled = l.ready.handled;
+    shown = l.ready.shown;
+    pages = l.ready.pages;
+    batch = l.ready.batch;
+  };
+  holds = l.holds;
+  weight = l.weight;
+})
 
 -- what is left by one that may end pages, which are dropped then
 pub leaves_ended : (asked later : List HostPlace) (rules : ℕ) (m new : Machine) → IsReady m → KeepsMeant m new → Stays m.world new.world →

@@ -9,4 +9,5 @@ mod Mounts
 mod Handled
 mod Watchers
 mod LeftOut
+mod Settable
 pub mod Shared

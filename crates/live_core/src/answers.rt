@@ -25,7 +25,11 @@ use sig_host::{Lent, Shelf};
 use std::alloc::Global;
 
 /// One entry.
-pub(crate) fn one(alloc: Global, entry: Entry) -> Result<Vec<Entry>, NoMemory>
+///
+/// # Errors
+///
+/// `NoMemory` where it finds no room.
+pub fn one(alloc: Global, entry: Entry) -> Result<Vec<Entry>, NoMemory>
     ensures { IfOk result (λ entries. entries.items ≡ entry ∷ []) }
 {
     let mut entries = Vec::with_capacity(alloc, 1)?;

@@ -45,16 +45,27 @@ impl Machine {
             OnOk result (Leaves asked asked count self.old self.new) }
         ensures memory { IfErr result (λ e. e ≡ fault.NoMemory) }
     {
-        let mut events = Vec::new(self.alloc);
-        let _done = self.world.change_cell(rules, cell, value, &mut events)?;
-        let told = tell_all(self.alloc, &mut self.labels, &mut self.journal, &events)?;
+        self.events.clear();
+        let _done = self
+            .world
+            .change_cell(rules, cell, value, &mut self.events)?;
+        let told = tell_all(
+            self.alloc,
+            &mut self.labels,
+            &mut self.journal,
+            &self.events,
+        )?;
         Ok(told)
     }
 
     /// Gives a cell a value. What is notified is told; while a batch is open the cell joins it, and nobody is notified. It asks for all
     /// that a set without a batch asks for, but that none is open; what it comes to and that another command may follow are two clauses,
     /// as only the first one is about the entries.
-    pub(crate) fn set_value(
+    ///
+    /// # Errors
+    ///
+    /// `NoMemory` alone.
+    pub fn set_value(
         &mut self,
         rules: &[EqualsRule],
         cell: NodeId,

@@ -50,6 +50,7 @@ impl Machine {
             handlers: Handlers::new(alloc),
             scripts: Vec::new(alloc),
             pages: Vec::new(alloc),
+            events: Vec::new(alloc),
         })
     }
 

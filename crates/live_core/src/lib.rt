@@ -15,5 +15,6 @@ mod pages;
 mod records;
 mod untraced;
 
+pub use answers::one;
 pub use lists::edit_refusal;
 pub use machine::Machine;

@@ -1,4 +1,4 @@
-use Rattle.std.proofs.Common.{◌∙◌, ◌∷◌, ◌++◌, [], ℕ, List, length, map, refl, sym, ap, subst, arith}
+use Rattle.std.proofs.Common.{◌∙◌, ◌∷◌, ◌++◌, [], ℕ, List, refl, sym, ap, subst, arith}
 use Rattle.std.proofs.lemmas.List.{length-map}
 use Rattle.sig_base.specs.declared.value.Outcome.{Outcome}
 use Rattle.signal_model.specs.Values.{value_of}
@@ -29,15 +29,15 @@ returns-clause-did g c = λ slacks count.
       did = record {
         steps = λ hosts all sound.
             let env = environment hosts slacks in
-            let n = c.of-signal.ensures ∙ c.number_of.ensures in
+            let n = c.of-signal.ensures ∙ c.requires.known in
             then_told hosts _ (record m { world = c.settled.new.world; journal = c.note_runs.new.journal }) front (entry.Outcome c.args.name c.in_ok-outcome.outcome)
-            (entry.Outcome c.args.name (value_of hosts m.world.graph.state.signals (number_of m.names c.args.name) [])) (front ++ c.in_ok-told.told.items) _
+            (entry.Outcome c.args.name (value_of hosts m.world.graph.state.signals (number_of m.names c.args.name) [])) (front ++ entry.Outcome c.args.name c.in_ok-outcome.outcome ∷ []) _
             (acts_steps hosts _ _ m c.settled.new.world m.labels c.note_runs.new.journal [] (ran notes)
             (settle env (c.of-signal.result ∷ [])) (settle env (number_of m.names c.args.name ∷ [])) front
             refl (c.in_ok-outcome.ensures.settled.does hosts slacks all sound) (λ i. settle env (n i ∷ []))
             (untold_runs m.labels m.journal c.note_runs.new.journal notes (rw c.deref.ensures.value at c.in_ok-note_runs.ensures)))
             (ap (λ (o : Outcome). entry.Outcome c.args.name o) (c.in_ok-outcome.ensures.value hosts all sound ∙ ap (λ (i : ℕ). value_of hosts m.world.graph.state.signals i []) n))
-            (ap (λ (es : List Entry). front ++ es) c.in_ok-told.ensures);
+            refl;
         leaves = λ hosts all sound.
             let tables = c.in_ok-outcome.ensures.tables in
             let e = c.in_ok-outcome.ensures.settled in
