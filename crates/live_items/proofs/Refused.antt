@@ -1,16 +1,20 @@
 -- Why a command is refused, and that it is done where it isn't.
-use Rattle.std.proofs.Common.{◌≡◌, ℕ, arith, Bool, true, cond, List, [], ◌∷◌, ◌++◌, Result, Ok, Err, IfOk, Option, Some, None, refl, sym, ap, subst, ◌∙◌}
+use Rattle.std.proofs.Common.{◌≡◌, ℕ, arith, Bool, cond, List, [], ◌∷◌, ◌++◌, Result, Ok, Err, IfOk, OnOk, Option, Some, None, refl, sym, ap, subst, ◌∙◌}
 use Rattle.std.specs.Option.{option_or, option_map_or}
 use Rattle.std.specs.Str.{bytes_eq}
 use Rattle.signal_model.specs.Recipes.{Hosts}
+use Rattle.effect_model.specs.Batches.{Batch}
 use Rattle.effect_model.specs.Worlds.{Environment}
 use Rattle.effect_world.specs.declared.world.World.{World}
+use Rattle.effect_world.specs.Stores.{IsSound}
 use Rattle.effect_world.specs.Wholes.{whole_of}
 use Rattle.sig_host.specs.Hosts.{HostPlace}
+use Rattle.sig_base.specs.declared.scalar.Scalar.{Scalar}
 use Rattle.sig_effect.specs.Stores.{environment}
 use Rattle.live_cmd.specs.declared.command.Command.{Command}
 use Rattle.live_cmd.specs.declared.command.Command.TheVariants as command
 use Rattle.live_cmd.specs.declared.command.Item.TheVariants as item
+use Rattle.live_cmd.specs.declared.command.Verb.TheVariants as verb
 use Rattle.live_entries.specs.declared.entry.Entry.{Entry}
 use Rattle.live_entries.specs.declared.entry.Entry.TheVariants as entry
 use Rattle.live_entries.specs.declared.refusal.Refusal.{Refusal}
@@ -25,7 +29,7 @@ use Rattle.live_model.specs.Uses.{uses_of, uses_of_body}
 use Rattle.live_model.specs.Machine as plain
 use Rattle.live_model.specs.Machine.{batch_refusal, body_refusal, done, later_refusal, name_refusal, over_limit, place_refusal, refusal_of, refused, row_refusal, step, unwatch_refusal}
 use Rattle.live_core.specs.declared.machine.Machine.{Machine}
-use Rattle.live_core.specs.Consistency.{AreFine, IsReady, Steps}
+use Rattle.live_core.specs.Consistency.{AreFine, IsReady, Leaves, Steps}
 use Rattle.live_core.specs.Doing.{Did, DidFor}
 use Rattle.live_core.specs.Views.{plain_of}
 use Rattle.live_core.proofs.Shared.{neither}
@@ -133,7 +137,7 @@ unrefused_last slacks m c none =
     neither (over_limit m c) (unwatch_refusal m c) (neither (row_refusal m c) (option_or (over_limit m c) (unwatch_refusal m c)) behind.1).1
 
 -- what isn't refused is done
-done_so : (hosts : Hosts) (later : List HostPlace) (new : Machine) (entries : List Entry) (env : Environment) (m : plain.Machine) (c : Command) →
+pub done_so : (hosts : Hosts) (later : List HostPlace) (new : Machine) (entries : List Entry) (env : Environment) (m : plain.Machine) (c : Command) →
     refusal_of env.slacks m c ≡ None → Steps hosts later new entries (done env m c) → Steps hosts later new entries (step env m (item.Do c))
 done_so hosts later new entries env m c none s =
     subst (λ (o : Option Refusal). Steps hosts later new entries (option_map_or (refused m) o (done env m c))) (sym none) s
@@ -164,22 +168,30 @@ did_so_for traced asked later count old new before after counted asks entries sl
 }
 
 -- what is refused tells that, and all stays as it was
-pub refused_for : {A E : Type 0} (traced : Bool) (r : Result A E) (items : A → List Entry) (asked : List HostPlace) (count : ℕ) (m : Machine) (before : Hosts → Type 0)
-    (counted : Type 0) (asks : ℕ) (next : Hosts → plain.Told) (why : Refusal) → counted → IsReady m →
-    ((hosts : Hosts) → plain.reached (plain_of asked m) (entry.Error why ∷ []) ≡ next hosts) → IfOk r (λ x. items x ≡ entry.Error why ∷ []) →
-    IfOk r (λ x. DidFor traced asked asked count m m before before counted asks (items x) next)
-refused_for traced (Ok x) items asked count m before counted asks next why counts ready is told = record {
+pub refused_told : (traced : Bool) (asked : List HostPlace) (count : ℕ) (m : Machine) (before : Hosts → Type 0) (counted : Type 0) (asks : ℕ) (next : Hosts → plain.Told)
+    (why : Refusal) → counted → IsReady m → ((hosts : Hosts) → plain.reached (plain_of asked m) (entry.Error why ∷ []) ≡ next hosts) →
+    DidFor traced asked asked count m m before before counted asks (entry.Error why ∷ []) next
+refused_told traced asked count m before counted asks next why counts ready is = record {
   front = [];
   hidden = tt;
   whole = λ e. refl;
   did = record {
-    steps = λ hosts a sound. record { step = ap (λ (es : List Entry). plain.reached (plain_of asked m) es) told ∙ is hosts; sound = sound };
+    steps = λ hosts a sound. record { step = is hosts; sound = sound };
     leaves = λ hosts a sound. record { ready = ready; holds = λ h. h; weight = omega arith };
     answers = λ hosts a. a;
     counted = counts;
     most = omega arith;
   };
 }
+
+-- so it is with a list of it
+pub refused_for : {A E : Type 0} (traced : Bool) (r : Result A E) (items : A → List Entry) (asked : List HostPlace) (count : ℕ) (m : Machine) (before : Hosts → Type 0)
+    (counted : Type 0) (asks : ℕ) (next : Hosts → plain.Told) (why : Refusal) → counted → IsReady m →
+    ((hosts : Hosts) → plain.reached (plain_of asked m) (entry.Error why ∷ []) ≡ next hosts) → IfOk r (λ x. items x ≡ entry.Error why ∷ []) →
+    IfOk r (λ x. DidFor traced asked asked count m m before before counted asks (items x) next)
+refused_for traced (Ok x) items asked count m before counted asks next why counts ready is told =
+    subst (λ (es : List Entry). DidFor traced asked asked count m m before before counted asks es next) (sym told)
+    (refused_told traced asked count m before counted asks next why counts ready is)
 refused_for traced (Err e) items asked count m before counted asks next why counts ready is told = tt
 
 -- the step of a command that is refused
@@ -190,3 +202,47 @@ refused_step env m c why is = ap (λ (o : Option Refusal). option_map_or (refuse
 -- where nothing is left out, all is told
 pub told_whole : (m : plain.Machine) (front es : List Entry) (next : plain.Told) → front ≡ [] → plain.reached m (front ++ es) ≡ next → plain.reached m es ≡ next
 told_whole m front es next none is = sym (ap (λ (xs : List Entry). plain.reached m (xs ++ es)) none) ∙ is
+
+-- ---- what is refused for its name alone
+
+-- an answer with none behind it, in three places
+thrice : {A : Type 0} (o : Option A) → o ≡ option_or (option_or (option_or o None) None) None
+thrice None = refl
+thrice (Some x) = refl
+
+-- a set and a get are done whether a batch is open or not
+set_in_any : (b : Option Batch) (n : List ℕ) (v : Scalar) → batch_refusal b (command.Set n v) ≡ None
+set_in_any None n v = refl
+set_in_any (Some b) n v = refl
+
+get_in_any : (b : Option Batch) (n : List ℕ) → batch_refusal b (command.Named verb.Get n) ≡ None
+get_in_any None n = refl
+get_in_any (Some b) n = refl
+
+-- so only their names may be a reason to refuse them
+pub set_refused : (slacks : List ℕ) (m : plain.Machine) (n : List ℕ) (v : Scalar) →
+    refusal_at m.world (n, need.Of kind.Cell) (meaning_of m.names n) ≡ refusal_of slacks m (command.Set n v)
+set_refused slacks m n v =
+    last_of (batch_refusal m.batch (command.Set n v)) (option_or (name_refusal m (command.Set n v)) (later_refusal slacks m (command.Set n v)))
+    (refusal_at m.world (n, need.Of kind.Cell) (meaning_of m.names n)) (set_in_any m.batch n v)
+    (thrice (refusal_at m.world (n, need.Of kind.Cell) (meaning_of m.names n)))
+
+pub get_refused : (slacks : List ℕ) (m : plain.Machine) (n : List ℕ) →
+    refusal_at m.world (n, need.Signal) (meaning_of m.names n) ≡ refusal_of slacks m (command.Named verb.Get n)
+get_refused slacks m n =
+    last_of (batch_refusal m.batch (command.Named verb.Get n)) (option_or (name_refusal m (command.Named verb.Get n)) (later_refusal slacks m (command.Named verb.Get n)))
+    (refusal_at m.world (n, need.Signal) (meaning_of m.names n)) (get_in_any m.batch n)
+    (thrice (refusal_at m.world (n, need.Signal) (meaning_of m.names n)))
+
+-- what is refused tells that, by whatever hosts
+pub refused_steps : {A E : Type 0} (r : Result A E) (items : A → List Entry) (hosts : Hosts) (asked : List HostPlace) (m : Machine) (next : plain.Told) (why : Refusal) →
+    IsSound hosts asked m.world → plain.reached (plain_of asked m) (entry.Error why ∷ []) ≡ next → IfOk r (λ x. items x ≡ entry.Error why ∷ []) →
+    IfOk r (λ x. Steps hosts asked m (items x) next)
+refused_steps (Ok x) items hosts asked m next why sound is told =
+    record { step = ap (λ (es : List Entry). plain.reached (plain_of asked m) es) told ∙ is; sound = sound }
+refused_steps (Err e) items hosts asked m next why sound is told = tt
+
+-- and leaves all as it was
+pub refused_leaves : {A E : Type 0} (r : Result A E) (asked : List HostPlace) (count : ℕ) (m : Machine) → IsReady m → OnOk r (Leaves asked asked count m m)
+refused_leaves (Ok x) asked count m ready = record { ready = ready; holds = λ h. h; weight = omega arith }
+refused_leaves (Err e) asked count m ready = tt

@@ -1,19 +1,21 @@
 // The machine with its end: after want of memory it does nothing more.
-ghost use Rattle.std.specs.Prelude.{◌≡◌, ◌+◌, ◌*◌, ◌≤◌, ◌<◌, ◌^◌, ℕ, List, true, false, None, All, IfOk, OnOk, OnErr, IsErr, length, map, is_some};
+ghost use Rattle.std.specs.Prelude.{◌≡◌, ◌+◌, ◌<◌, ◌^◌, ◌∷◌, ℕ, [], List, true, false, All, IfOk, OnOk, OnErr, IsErr, length, map, is_some};
 ghost use Rattle.signal_model.specs.Recipes.{Hosts};
-ghost use Rattle.effect_model.specs.Worlds.{Environment};
 ghost use Rattle.sig_host.specs.Hosts.{hosts_of};
 ghost use Rattle.sig_effect.specs.Stores.{environment};
 ghost use Rattle.effect_world.specs.Stores.{IsSound};
+ghost use Rattle.live_cmd.specs.declared.command.Command.TheVariants as command;
+ghost use Rattle.live_cmd.specs.declared.command.Item.TheVariants as item;
+ghost use Rattle.live_cmd.specs.declared.command.Verb.TheVariants as verb;
 ghost use Rattle.live_model.specs.Machine.{empty, step, reached, Machine};
 ghost use Rattle.live_core.specs.Consistency.{IsKept, IsReadItem, SomeHosts};
 ghost use Rattle.live_core.specs.Doing.{TellsBehind};
 ghost use Rattle.live_core.specs.Views.{plain_of};
 
-use crate::commands::act;
+use crate::commands::{act, try_get};
 use live_cmd::Item;
 use live_entries::Entry;
-use sig_base::NoMemory;
+use sig_base::{Name, NoMemory};
 use sig_host::{EqualsRule, HostFormula, Lent, Shelf};
 use std::alloc::Global;
 
@@ -139,6 +141,40 @@ impl Live {
         self.broken = false;
         self.done += 1;
         Ok(entries)
+    }
+
+    /// Does a `get` of a name where no trace is asked for, as `do_item` does, whose clauses it has. What it tells is one entry.
+    ///
+    /// # Errors
+    ///
+    /// `NoMemory` where memory ran out. After it each later call answers that too, and changes nothing.
+    pub fn get(&mut self, name: Name) -> Result<Entry, NoMemory>
+        requires kept { ⟦<Live as Running>⟧.kept self.old }
+        requires meant { self.old.broken ≡ false → SomeHosts (λ hosts. ⟦<Shelf as Lent>⟧.answers hosts self.old.shelf × ⟦<Live as Running>⟧.sound hosts self.old) }
+        requires counted { self.old.broken ≡ false → ⟦<Shelf as Lent>⟧.counted self.old.shelf }
+        requires room { self.old.done < 2 ^ 23 }
+        ensures step { (hosts : Hosts) → ⟦<Shelf as Lent>⟧.answers hosts self.old.shelf → ⟦<Live as Running>⟧.sound hosts self.old →
+            IfOk result (λ e.
+            TellsBehind false (⟦<Live as Running>⟧.machine self.new) (e ∷ [])
+            (step (environment hosts (⟦<Live as Running>⟧.slacks self.old)) (⟦<Live as Running>⟧.machine self.old) (item.Do (command.Named verb.Get name)))
+            × ⟦<Live as Running>⟧.sound hosts self.new × ⟦<Shelf as Lent>⟧.answers hosts self.new.shelf) }
+        ensures kept { ⟦<Live as Running>⟧.kept self.new }
+        ensures meant { self.new.broken ≡ false → SomeHosts (λ hosts. ⟦<Shelf as Lent>⟧.answers hosts self.new.shelf × ⟦<Live as Running>⟧.sound hosts self.new) }
+        ensures counted { self.new.broken ≡ false → ⟦<Shelf as Lent>⟧.counted self.new.shelf }
+        ensures slacks { ⟦<Live as Running>⟧.slacks self.new ≡ ⟦<Live as Running>⟧.slacks self.old }
+        ensures done { OnOk result (self.new.done ≡ self.old.done + 1) }
+        ensures whole { OnOk result (self.new.broken ≡ false) }
+        ensures broken { OnErr result (self.new.broken ≡ true) }
+        ensures stays { self.old.broken ≡ true → IsErr result × (self.new ≡ self.old) }
+    {
+        if self.broken {
+            return Err(NoMemory);
+        }
+        self.broken = true;
+        let entry = try_get(&mut self.machine, &mut self.shelf, name)?;
+        self.broken = false;
+        self.done += 1;
+        Ok(entry)
     }
 
     /// Does one item and tells what came of it: one step of the plain machine, the entries of a trace included. A refused item changes

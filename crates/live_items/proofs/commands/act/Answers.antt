@@ -3,7 +3,7 @@ use Rattle.live_items.proofs.Refused.{refused_for}
 use Rattle.live_items.proofs.commands.act.Goals as goal
 
 pub returns-in-Do : goal.returns-in-Do
-returns-in-Do g c = record { did = rw c.in-Do.is c.try_command.ensures.did }
+returns-in-Do g c = record { did = rw c.in-Do.is c.do_command.ensures.did }
 
 pub returns-in-Refused : goal.returns-in-Refused
 returns-in-Refused g c = record {

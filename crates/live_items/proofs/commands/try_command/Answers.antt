@@ -1,4 +1,4 @@
-use Rattle.std.proofs.Common.{◌∙◌, List, is_some, map, sym}
+use Rattle.std.proofs.Common.{◌∙◌, List, [], is_some, map, refl, sym}
 use Rattle.sig_host.specs.Hosts.{HostPlace}
 use Rattle.sig_effect.specs.Stores.{environment}
 use Rattle.live_pages.specs.Views.{template_of}
@@ -7,43 +7,43 @@ use Rattle.live_core.specs.Views.{plain_of}
 use Rattle.live_items.proofs.Refused.{did_so_for, fine_here, refused_for, refused_step, unrefused_batch, unrefused_last, unrefused_names, unrefused_rows}
 use Rattle.live_items.proofs.commands.try_command.Goals as goal
 
-pub perform_for-requires-clause-fine : goal.perform_for-requires-clause-fine
-perform_for-requires-clause-fine g c =
+pub perform-requires-clause-fine : goal.perform-requires-clause-fine
+perform-requires-clause-fine g c =
     let m = c.args.machine.now in
     let asked : List HostPlace = map (λ p. record { there = is_some p.host; asks = p.count }) c.args.shelf.now.places.items in
     let why = rw c.in-Ok.is at c.refusal_of.ensures in
     fine_here asked m c.args.command (unrefused_names (map (λ r. r.slack) c.args.rules.now) (plain_of asked m) c.args.command (sym why ∙ c.in_default-refusal.is))
 
-pub perform_for-requires-clause-batch : goal.perform_for-requires-clause-batch
-perform_for-requires-clause-batch g c =
+pub perform-requires-clause-batch : goal.perform-requires-clause-batch
+perform-requires-clause-batch g c =
     let asked : List HostPlace = map (λ p. record { there = is_some p.host; asks = p.count }) c.args.shelf.now.places.items in
     let why = rw c.in-Ok.is at c.refusal_of.ensures in
     unrefused_batch (map (λ r. r.slack) c.args.rules.now) (plain_of asked c.args.machine.now) c.args.command (sym why ∙ c.in_default-refusal.is)
 
-pub perform_for-requires-clause-rows : goal.perform_for-requires-clause-rows
-perform_for-requires-clause-rows g c =
+pub perform-requires-clause-rows : goal.perform-requires-clause-rows
+perform-requires-clause-rows g c =
     let asked : List HostPlace = map (λ p. record { there = is_some p.host; asks = p.count }) c.args.shelf.now.places.items in
     let why = rw c.in-Ok.is at c.refusal_of.ensures in
     unrefused_rows (map (λ r. r.slack) c.args.rules.now) (plain_of asked c.args.machine.now) c.args.command (sym why ∙ c.in_default-refusal.is)
 
-pub perform_for-requires-clause-room : goal.perform_for-requires-clause-room
-perform_for-requires-clause-room g c =
+pub perform-requires-clause-room : goal.perform-requires-clause-room
+perform-requires-clause-room g c =
     let asked : List HostPlace = map (λ p. record { there = is_some p.host; asks = p.count }) c.args.shelf.now.places.items in
     let why = rw c.in-Ok.is at c.refusal_of.ensures in
     (unrefused_last (map (λ r. r.slack) c.args.rules.now) (plain_of asked c.args.machine.now) c.args.command (sym why ∙ c.in_default-refusal.is)).0
 
-pub perform_for-requires-clause-watched : goal.perform_for-requires-clause-watched
-perform_for-requires-clause-watched g c =
+pub perform-requires-clause-watched : goal.perform-requires-clause-watched
+perform-requires-clause-watched g c =
     let asked : List HostPlace = map (λ p. record { there = is_some p.host; asks = p.count }) c.args.shelf.now.places.items in
     let why = rw c.in-Ok.is at c.refusal_of.ensures in
     (unrefused_last (map (λ r. r.slack) c.args.rules.now) (plain_of asked c.args.machine.now) c.args.command (sym why ∙ c.in_default-refusal.is)).1
 
-pub returns-in-Ok-perform_for : goal.returns-in-Ok-perform_for
-returns-in-Ok-perform_for g c =
+pub returns-in-Ok-perform : goal.returns-in-Ok-perform
+returns-in-Ok-perform g c =
     let why = rw c.in-Ok.is at c.refusal_of.ensures in
     record {
       did = did_so_for c.args.traced _ _ _ _ _ _ _ _ _ _ (map (λ r. r.slack) c.args.rules.now) (plain_of _ c.args.machine.now) c.args.command
-          (sym why ∙ c.in_default-refusal.is) (rw c.in-Ok-perform_for.is at c.perform_for.ensures.did);
+          (sym why ∙ c.in_default-refusal.is) (record { front = []; hidden = tt; whole = λ _. refl; did = rw c.in-Ok-perform.is at c.perform.ensures.did });
     }
 
 pub refusal_of-requires : goal.refusal_of-requires
