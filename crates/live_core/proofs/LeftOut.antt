@@ -63,7 +63,7 @@ pub did_for : {A E : Type 0} (traced : Bool) (r : Result A E) (items : A → Lis
     (counted : Type 0) (asks : ℕ) (next : Hosts → Told) →
     IfOk r (λ x. Did asked later count old new before after counted asks (items x) next) →
     IfOk r (λ x. DidFor traced asked later count old new before after counted asks (items x) next)
-did_for traced (Ok x) items asked later count old new before after counted asks next d = record { front = []; hidden = tt; whole = λ e. refl; did = d }
+did_for traced (Ok x) items asked later count old new before after counted asks next d = record { front = []; untold = record { hidden = tt; whole = λ e. refl }; did = d }
 did_for traced (Err e) items asked later count old new before after counted asks next d = tt
 
 -- so it is where a trace isn't asked for
@@ -78,4 +78,4 @@ did_hiding traced r items asked later count old new before after counted asks ne
 pub did_whole : (asked later : List HostPlace) (count : ℕ) (old new : Machine) (before after : Hosts → Type 0) (counted : Type 0) (asks : ℕ) (entries : List Entry)
     (next : Hosts → Told) → DidFor true asked later count old new before after counted asks entries next → Did asked later count old new before after counted asks entries next
 did_whole asked later count old new before after counted asks entries next d =
-    subst (λ (front : List Entry). Did asked later count old new before after counted asks (front ++ entries) next) (d.whole refl) d.did
+    subst (λ (front : List Entry). Did asked later count old new before after counted asks (front ++ entries) next) (d.untold.whole refl) d.did

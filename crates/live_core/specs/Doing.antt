@@ -40,17 +40,20 @@ pub record Did (asked later : List HostPlace) (rules : ℕ) (old new : Machine) 
   pub counted : counts
   pub most : most_asked later ≤ most_asked asked + asks
 
--- So it was, and of what is told some entries in front aren't given, which are printed only in a trace; none where one is asked for.
+-- Of what is told these entries in front aren't given, which are printed only in a trace; none where one is asked for.
+pub record AreUntold (traced : Bool) (front : List Entry) : Type 0 where
+  pub hidden : AllByRecursion (λ e. is_traced e ≡ true) front
+  pub whole : traced ≡ true → front ≡ []
+
+-- A command was done so, and what is told is these entries behind some that aren't given.
 pub record DidFor (traced : Bool) (asked later : List HostPlace) (rules : ℕ) (old new : Machine) (before after : Hosts → Type 0)
     (counts : Type 0) (asks : ℕ) (entries : List Entry) (next : Hosts → Told) : Type 0 where
   pub front : List Entry
-  pub hidden : AllByRecursion (λ e. is_traced e ≡ true) front
-  pub whole : traced ≡ true → front ≡ []
+  pub untold : AreUntold traced front
   pub did : Did asked later rules old new before after counts asks (front ++ entries) next
 
--- A plain machine was reached, and what is told is these entries behind some that are printed only in a trace, none where one is asked for.
+-- A plain machine was reached, and what is told is these entries behind some that aren't given.
 pub record TellsBehind (traced : Bool) (m : plain.Machine) (entries : List Entry) (next : Told) : Type 0 where
   pub front : List Entry
-  pub hidden : AllByRecursion (λ e. is_traced e ≡ true) front
-  pub whole : traced ≡ true → front ≡ []
+  pub untold : AreUntold traced front
   pub is : plain.reached m (front ++ entries) ≡ next

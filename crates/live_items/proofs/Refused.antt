@@ -162,8 +162,7 @@ pub did_so_for : (traced : Bool) (asked later : List HostPlace) (count : ℕ) (o
     DidFor traced asked later count old new before after counted asks entries (λ hosts. step (environment hosts slacks) m (item.Do c))
 did_so_for traced asked later count old new before after counted asks entries slacks m c none d = record {
   front = d.front;
-  hidden = d.hidden;
-  whole = d.whole;
+  untold = d.untold;
   did = did_so asked later count old new before after counted asks (d.front ++ entries) slacks m c none d.did;
 }
 
@@ -173,8 +172,7 @@ pub refused_told : (traced : Bool) (asked : List HostPlace) (count : ℕ) (m : M
     DidFor traced asked asked count m m before before counted asks (entry.Error why ∷ []) next
 refused_told traced asked count m before counted asks next why counts ready is = record {
   front = [];
-  hidden = tt;
-  whole = λ e. refl;
+  untold = record { hidden = tt; whole = λ e. refl };
   did = record {
     steps = λ hosts a sound. record { step = is hosts; sound = sound };
     leaves = λ hosts a sound. record { ready = ready; holds = λ h. h; weight = omega arith };

@@ -43,7 +43,7 @@ returns-in-Ok-perform g c =
     let why = rw c.in-Ok.is at c.refusal_of.ensures in
     record {
       did = did_so_for c.args.traced _ _ _ _ _ _ _ _ _ _ (map (λ r. r.slack) c.args.rules.now) (plain_of _ c.args.machine.now) c.args.command
-          (sym why ∙ c.in_default-refusal.is) (record { front = []; hidden = tt; whole = λ _. refl; did = rw c.in-Ok-perform.is at c.perform.ensures.did });
+          (sym why ∙ c.in_default-refusal.is) (record { front = []; untold = record { hidden = tt; whole = λ _. refl }; did = rw c.in-Ok-perform.is at c.perform.ensures.did });
     }
 
 pub refusal_of-requires : goal.refusal_of-requires

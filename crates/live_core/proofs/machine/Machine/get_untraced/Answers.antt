@@ -24,8 +24,7 @@ returns-clause-did g c = λ slacks count.
     let front : List Entry = told_by (labels_of m.labels) (ran notes) in
     record {
       front = front;
-      hidden = traced_runs (labels_of m.labels) notes;
-      whole = λ e. absurd cc;
+      untold = record { hidden = traced_runs (labels_of m.labels) notes; whole = λ e. absurd cc };
       did = record {
         steps = λ hosts all sound.
             let env = environment hosts slacks in

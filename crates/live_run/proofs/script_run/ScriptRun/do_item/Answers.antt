@@ -12,11 +12,11 @@ returns-clause-did g c = λ hosts all sound.
       record {
         entries = t.front ++ es;
         is = t.is;
-        sized = sized_behind t.front es t.hidden (rw c.deref.ensures.value at c.in_ok-take_entries.ensures.sized);
+        sized = sized_behind t.front es t.untold.hidden (rw c.deref.ensures.value at c.in_ok-take_entries.ensures.sized);
         took = λ is fs.
             (rw c.deref.ensures.value at c.in_ok-take_entries.ensures.prints is fs)
             ∙ ap (λ (l : List ℕ). c.args.self.now.out.items ++ l)
-            (sym (left_out c.is_untraced-traced.result c.take_item.new.self t.front t.hidden t.whole c.is_untraced-traced.ensures.runs is (es ++ fs))
+            (sym (left_out c.is_untraced-traced.result c.take_item.new.self t.front t.untold.hidden t.untold.whole c.is_untraced-traced.ensures.runs is (es ++ fs))
             ∙ c.take_item.ensures.prints is (t.front ++ (es ++ fs))
             ∙ ap (λ (xs : List Entry). still c.args.self.now.report (c.args.item ∷ is) xs) (sym (append_assoc t.front es fs)));
       },
