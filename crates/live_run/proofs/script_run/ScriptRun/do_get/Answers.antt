@@ -1,0 +1,33 @@
+use Rattle.std.proofs.Common.{List, ◌∷◌, [], ◌++◌, ℕ, ap, sym, ◌∙◌, append_assoc}
+use Rattle.live_cmd.specs.declared.command.Command.TheVariants as command
+use Rattle.live_cmd.specs.declared.command.Item.TheVariants as item
+use Rattle.live_cmd.specs.declared.command.Verb.TheVariants as verb
+use Rattle.live_entries.specs.declared.entry.Entry.{Entry}
+use Rattle.live_report.specs.Reports.{still}
+use Rattle.live_run.proofs.LeftOut.{sized_behind}
+use Rattle.live_run.proofs.script_run.ScriptRun.do_get.Goals as goal
+
+pub returns-then-not-is_untraced-clause-did : goal.returns-then-not-is_untraced-clause-did
+returns-then-not-is_untraced-clause-did g c = λ hosts all sound. c.do_item.ensures.did hosts all sound
+
+pub returns-clause-did : goal.returns-clause-did
+returns-clause-did g c = λ hosts all sound.
+    let s = c.in_ok-told.ensures.step hosts all sound in
+    let t = s.0 in
+    let es : List Entry = c.in_ok-told.told ∷ [] in
+    let r = c.args.self.now.report in
+    let plain = c.is_untraced.ensures in (
+      record {
+        entries = t.front ++ es;
+        is = t.is;
+        sized = sized_behind t.front es t.untold.hidden (rw c.from_ref.ensures.value at c.in_ok-take_entries.ensures.sized);
+        took = λ is fs.
+            (rw c.from_ref.ensures.value at c.in_ok-take_entries.ensures.prints is fs)
+            ∙ ap (λ (l : List ℕ). c.args.self.now.out.items ++ l)
+            (sym (plain.runs c.if-not-is_untraced.false is t.front (es ++ fs) t.untold.hidden)
+            ∙ sym (plain.items c.if-not-is_untraced.false (item.Do (command.Named verb.Get c.args.name)) is (t.front ++ (es ++ fs)))
+            ∙ ap (λ (xs : List Entry). still r (item.Do (command.Named verb.Get c.args.name) ∷ is) xs) (sym (append_assoc t.front es fs)));
+      },
+      s.1,
+      s.2,
+    )
