@@ -1,10 +1,10 @@
 -- What a set marks newly must run, or something below it must.
-use Rattle.std.proofs.Common.{◌≡◌, ℕ, zero, suc, ◌+◌, ◌==◌, ◌||◌, ◌&&◌, not, Bool, true, false, if◌then◌else◌, List, [], ◌∷◌, Option, Some, None, refl, sym, ap, ◌∙◌, subst, arith, inl, inr}
+use Rattle.std.proofs.Common.{◌≡◌, ℕ, zero, suc, ◌+◌, ◌==◌, ◌||◌, ◌&&◌, not, Bool, true, false, if◌then◌else◌, List, [], ◌∷◌, Option, Some, None, refl, sym, ap, ◌∙◌, arith, inl, inr}
 use Rattle.std.proofs.lemmas.Bool.{eqb-true}
 use Rattle.std.proofs.lemmas.Bool.Decides.{nat_tests}
 use Rattle.sig_base.specs.declared.value.Value.{Value}
 use Rattle.signal_model.specs.Signals.{is_computed, is_in, is_there, standing}
-use Rattle.signal_model.specs.Memos.{Source, Memo, Memos, is_cycle, is_moved, keeps, memo_of, must_run_by, number_of, same_number, some_moved, source_names, sources_in}
+use Rattle.signal_model.specs.Memos.{Source, Memos, is_moved, keeps, must_run_by, number_of, same_number, some_moved, source_names, sources_in}
 use Rattle.signal_model.proofs.Shared.{either, or_right}
 use Rattle.mark_laws.specs.Marked.{IsUnmarked}
 use Rattle.mark_laws.proofs.Shared.{keeper}

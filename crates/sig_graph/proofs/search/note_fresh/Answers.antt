@@ -1,5 +1,4 @@
 use Rattle.std.proofs.Common.{◌≡◌, true, sym, subst}
-use Rattle.std.specs.Prelude.{get_or}
 use Rattle.signal_model.specs.Signals.{is_in}
 use Rattle.sig_seats.proofs.Shared.{in_get}
 use Rattle.sig_graph.proofs.search.note_fresh.Goals as goal

@@ -1,7 +1,5 @@
-use Rattle.std.proofs.Common.{sym, ap, ◌∙◌}
+use Rattle.std.proofs.Common.{ap, ◌∙◌}
 use Rattle.signal_model.specs.Signals.{is_computed, standing}
-use Rattle.signal_model.specs.Marks.{is_due, mark_of}
-use Rattle.sig_graph.specs.Looks.{is_clean_mark}
 use Rattle.sig_graph.specs.States.{Seen}
 use Rattle.sig_graph.proofs.Consistency.{computed_here}
 use Rattle.sig_graph.proofs.Searches.{seats_apart}
