@@ -22,7 +22,7 @@ use Rattle.sig_seats.specs.Seats.{Seating, holder}
 use Rattle.sig_base.specs.declared.limits.TheConstants.{MOST_NODES}
 use Rattle.sig_graph.proofs.Parts.{memo_found, number_found, stands}
 use Rattle.sig_seats.proofs.Shared.{held_inside}
-use Rattle.sig_nodes.proofs.Shared.{computed_live}
+use Rattle.sig_nodes.proofs.Shared.{body_got, computed_live}
 
 -- ---- what must run
 
@@ -71,6 +71,10 @@ due_found xs g n =
     go Gone = refl
     go (CellBody v r) = refl
     go (ComputedBody c) = refl
+
+-- the same by its node
+pub due_got : (xs : List Node) (g n : ℕ) (x : Node) → slice_get xs n ≡ Some x → is_due_at xs g n ≡ (is_computed_body x.body && must_run_by (memos_of g xs) (memo_body x.body) [])
+due_got xs g n x got = due_found xs g n ∙ ap (λ (b : Body). is_computed_body b && must_run_by (memos_of g xs) (memo_body b) []) (body_got xs n x got)
 
 -- ---- the mark
 

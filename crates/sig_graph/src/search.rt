@@ -154,6 +154,7 @@ fn goes_to_due(
 }
 
 // Notes that a computed, or something below it, must run.
+#[inline(always)]
 fn note(nodes: &Nodes, worn: u128, id: NodeId, finds: &mut Finds)
     requires { AreSeated nodes.now.items MOST_NODES }
     ensures { (g : ℕ) → HasDue nodes.now.items g id → KeepsFound nodes.now.items g worn finds.old → KeepsFound nodes.now.items g worn finds.new }
@@ -221,8 +222,8 @@ pub(crate) fn finds_below(
     false
 }
 
-/// Whether a computed is clean, as far as it is told without a search: it is where it isn't marked, and isn't where it must run, or where
-/// it was found that something below it must. None where a search tells it.
+/// Whether a computed is clean, as far as it is told without a search: it isn't where it was found that it, or something below it, must
+/// run; it is where it isn't marked; and it isn't where it must run itself. None where a search tells it.
 pub(crate) fn told_clean(
     nodes: &Nodes,
     generation: u128,
@@ -235,12 +236,15 @@ pub(crate) fn told_clean(
     ensures clean { IfSome result (λ b. b ≡ is_clean_mark (mark_of (signals_of nodes.now.items) (memos_of generation nodes.now.items) id)) }
     ensures calm { IfNone result (is_due_at nodes.now.items generation id ≡ false) }
 {
-    if !marks.is_marked(id) {
-        return Some(true);
-    }
     match nodes.at(id) {
         Some(node) => {
-            if is_told(nodes, generation, worn, node, finds) {
+            if finds.is_found(worn, node.seat) {
+                return Some(false);
+            }
+            if !marks.is_marked(id) {
+                return Some(true);
+            }
+            if is_node_due(nodes, generation, node) {
                 return Some(false);
             }
             None

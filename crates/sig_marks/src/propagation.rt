@@ -83,6 +83,7 @@ fn mark_reader(marked: &mut Store<bool>, fresh: &mut Vec<u128>, reader: u128)
 }
 
 // The same for several. Its clauses are the same too, as what holds after one has to hold for the next.
+#[inline(always)]
 fn mark_each(readers: &[u128], marked: &mut Store<bool>, fresh: &mut Vec<u128>)
     requires within { All (λ d. d < length marked.old.entries) readers.now }
     requires room { vec_len fresh.old + unmarked_count (marks_of marked.old.entries) ≤ vec_capacity fresh.old }
