@@ -22,6 +22,7 @@ pub use limits::{
 pub use name::{Name, NameFault};
 pub use print::{put_fault, put_quoted, put_scalar, put_value};
 pub use rows::{Row, Rows, Scalars};
+pub use same::same_bytes;
 pub use scalar::{Scalar, put_decimal, put_shown};
 pub use text::{Text, TextFault};
 pub use value::{Fault, Known, Outcome, Step, Value, alike};

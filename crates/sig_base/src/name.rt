@@ -64,6 +64,17 @@ impl Name {
         if !is_name(text.as_bytes()) {
             return Err(NameFault::Bad);
         }
+        match Name::of_judged(alloc, text) {
+            Ok(name) => Ok(name),
+            Err(e) => Err(NameFault::NoMemory(e)),
+        }
+    }
+
+    /// The name of these characters, which are known to be one.
+    pub fn of_judged(alloc: Global, text: &str) -> Result<Name, NoMemory>
+        requires { is_name text.now ≡ true }
+        ensures { IfOk result (λ n. n ≡ text.now) }
+    {
         Ok(Name {
             shared: RcStr::from_str(alloc, text)?,
         })

@@ -56,9 +56,9 @@ fn same_few(one: &[u8], other: &[u8]) -> bool
     one[0] == other[0] && one[between] == other[between] && one[last] == other[last]
 }
 
-/// Whether bytes are the same.
+/// Whether bytes are the same; where they stand next to each other in a search this is told without a call.
 #[inline]
-pub(crate) fn same_bytes(one: &[u8], other: &[u8]) -> bool
+pub fn same_bytes(one: &[u8], other: &[u8]) -> bool
     ensures { result ≡ bytes_eq one.now other.now }
 {
     if one.len() != other.len() {

@@ -4,6 +4,7 @@ ghost use Rattle.std.specs.List.{list_all};
 ghost use Rattle.sig_base.specs.Words.{begins_word, in_tag, in_word, is_blank, is_name, is_reserved, is_tag};
 
 use crate::MOST_NAME;
+use crate::same::same_bytes;
 
 /// Whether a byte may stand between the words of a line: a space or a tab.
 pub fn is_blank(b: u8) -> bool
@@ -37,21 +38,21 @@ fn is_reserved(word: &[u8]) -> bool
     ensures { result ≡ is_reserved word.now }
 {
     match word.len() {
-        2 => word == b"or".as_slice()
-            || word == b"if".as_slice()
-            || word == b"it".as_slice()
-            || word == b"in".as_slice(),
-        3 => word == b"and".as_slice() || word == b"not".as_slice() || word == b"sum".as_slice(),
+        2 => same_bytes(word, b"or")
+            || same_bytes(word, b"if")
+            || same_bytes(word, b"it")
+            || same_bytes(word, b"in"),
+        3 => same_bytes(word, b"and") || same_bytes(word, b"not") || same_bytes(word, b"sum"),
         4 => {
-            word == b"then".as_slice()
-                || word == b"else".as_slice()
-                || word == b"true".as_slice()
-                || word == b"keep".as_slice()
-                || word == b"host".as_slice()
+            same_bytes(word, b"then")
+                || same_bytes(word, b"else")
+                || same_bytes(word, b"true")
+                || same_bytes(word, b"keep")
+                || same_bytes(word, b"host")
         }
-        5 => word == b"false".as_slice() || word == b"count".as_slice(),
-        6 => word == b"equals".as_slice(),
-        7 => word == b"untrack".as_slice(),
+        5 => same_bytes(word, b"false") || same_bytes(word, b"count"),
+        6 => same_bytes(word, b"equals"),
+        7 => same_bytes(word, b"untrack"),
         _ => false,
     }
 }
