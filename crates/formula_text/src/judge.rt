@@ -8,7 +8,7 @@ ghost use Rattle.formula_text.specs.Rough.{bytes_at, draft, inside, HasLeaves, I
 ghost use Rattle.formula_text.specs.Refusals.{has_row_form, has_untrack, is_above, needs_row, with_name, with_names};
 
 use crate::rough::{Around, Rough};
-use sig_base::{MOST_TEXT, Name, NameFault, NoMemory, Text, TextFault};
+use sig_base::{MOST_TEXT, Name, NoMemory, Text, TextFault, same_bytes};
 use sig_words::{Token, literal, token_bytes};
 use std::alloc::Global;
 use std::str;
@@ -107,7 +107,9 @@ pub fn text_at(
 fn is_among(names: &[Name], text: &[u8]) -> bool
     ensures { result ≡ list_any (λ m. bytes_eq m text.now) names.now }
 {
-    names.iter().any(|n| n.as_str().as_bytes() == text)
+    names
+        .iter()
+        .any(|n| same_bytes(n.as_str().as_bytes(), text))
 }
 
 /// The name at a place.
@@ -120,11 +122,7 @@ pub fn name_at(alloc: Global, line: &[u8], tokens: &[Token], place: usize) -> Re
     let Ok(text) = str::from_utf8(token_bytes(line, &tokens[place])) else {
         unreachable!()
     };
-    match Name::new(alloc, text) {
-        Ok(name) => Ok(name),
-        Err(NameFault::Bad) => unreachable!(),
-        Err(NameFault::NoMemory(e)) => Err(e),
-    }
+    Name::of_judged(alloc, text)
 }
 
 fn put_name(

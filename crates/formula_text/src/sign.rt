@@ -7,7 +7,7 @@ ghost use Rattle.formula_text.specs.Rough.{bytes_at, sign_of, IsSeen, IsSeenAt, 
 
 use crate::operators::operator_of;
 use crate::rough::{Around, OverRows};
-use sig_base::is_name;
+use sig_base::{is_name, same_bytes};
 use sig_formula::BinOp;
 use sig_words::{Token, TokenKind, token_bytes};
 
@@ -66,9 +66,9 @@ fn sign_of_two(text: &[u8]) -> Sign
     ensures name { result ≡ Sign.Name → is_name text.now ≡ true }
     ensures no_text { result ≡ Sign.Text → ⊥ }
 {
-    if text == b"if".as_slice() {
+    if same_bytes(text, b"if") {
         Sign::If
-    } else if text == b"it".as_slice() {
+    } else if same_bytes(text, b"it") {
         Sign::It
     } else {
         name_sign(text)
@@ -83,9 +83,9 @@ fn sign_of_three(text: &[u8]) -> Sign
     ensures name { result ≡ Sign.Name → is_name text.now ≡ true }
     ensures no_text { result ≡ Sign.Text → ⊥ }
 {
-    if text == b"not".as_slice() {
+    if same_bytes(text, b"not") {
         Sign::Not
-    } else if text == b"sum".as_slice() {
+    } else if same_bytes(text, b"sum") {
         Sign::OverRows(OverRows::Sum)
     } else {
         name_sign(text)
@@ -100,13 +100,13 @@ fn sign_of_four(text: &[u8]) -> Sign
     ensures name { result ≡ Sign.Name → is_name text.now ≡ true }
     ensures no_text { result ≡ Sign.Text → ⊥ }
 {
-    if text == b"then".as_slice() {
+    if same_bytes(text, b"then") {
         Sign::Then
-    } else if text == b"else".as_slice() {
+    } else if same_bytes(text, b"else") {
         Sign::Else
-    } else if text == b"keep".as_slice() {
+    } else if same_bytes(text, b"keep") {
         Sign::OverRows(OverRows::Keep)
-    } else if text == b"true".as_slice() {
+    } else if same_bytes(text, b"true") {
         Sign::Truth(true)
     } else {
         name_sign(text)
@@ -121,9 +121,9 @@ fn sign_of_five(text: &[u8]) -> Sign
     ensures name { result ≡ Sign.Name → is_name text.now ≡ true }
     ensures no_text { result ≡ Sign.Text → ⊥ }
 {
-    if text == b"count".as_slice() {
+    if same_bytes(text, b"count") {
         Sign::Around(Around::Count)
-    } else if text == b"false".as_slice() {
+    } else if same_bytes(text, b"false") {
         Sign::Truth(false)
     } else {
         name_sign(text)
@@ -138,7 +138,7 @@ fn sign_of_seven(text: &[u8]) -> Sign
     ensures name { result ≡ Sign.Name → is_name text.now ≡ true }
     ensures no_text { result ≡ Sign.Text → ⊥ }
 {
-    if text == b"untrack".as_slice() {
+    if same_bytes(text, b"untrack") {
         Sign::Around(Around::Untrack)
     } else {
         name_sign(text)

@@ -12,7 +12,7 @@ ghost use Rattle.formula_text.specs.Slots.{of_text_fault, refusal, wired, IsCaus
 use crate::judge::{has_untrack, is_above, name_at, needs_row, put_names, text_at};
 use crate::reader::read_rough;
 use crate::rough::{Around, OverRows, Rough};
-use sig_base::{MOST_HEIGHT, MOST_SOURCES, Name, NoMemory, Scalar, TextFault};
+use sig_base::{MOST_HEIGHT, MOST_SOURCES, Name, NoMemory, Scalar, TextFault, same_bytes};
 use sig_formula::Formula;
 use sig_words::{Token, token_bytes};
 use std::alloc::{AllocFailed, Global};
@@ -97,7 +97,9 @@ fn place_of(names: &[Name], text: &[u8]) -> Option<usize>
     ensures place { result ≡ position (λ m. bytes_eq m text.now) names.now }
     ensures within { IfSome result (λ i. i < length names.now) }
 {
-    names.iter().position(|n| n.as_str().as_bytes() == text)
+    names
+        .iter()
+        .position(|n| same_bytes(n.as_str().as_bytes(), text))
 }
 
 // The slot of a name among few.
@@ -248,14 +250,11 @@ pub fn wire(
     }
     let mut names = Vec::new(alloc);
     put_names(alloc, &mut names, line, tokens, rough)?;
-    let formula = slotted(alloc, line, tokens, rough, &names)?;
+    let formula = formula_of(alloc, line, tokens, rough, &names)?;
     if names.len() > MOST_SOURCES {
         return Err(FormulaFault::Sources);
     }
-    Ok(Wired {
-        formula: Box::into_inner(formula),
-        names,
-    })
+    Ok(Wired { formula, names })
 }
 
 /// The longest formula from a place on, and the place of the token after it. `Syntax` where no formula begins there; the
