@@ -7,6 +7,7 @@ ghost use Rattle.std.proofs.Common.{rules};
 ghost use Rattle.sig_base.specs.declared.name.NameFault.TheVariants as fault;
 ghost use Rattle.sig_base.specs.Words.{is_name};
 
+use crate::same::same_bytes;
 use crate::{NoMemory, is_name};
 use std::alloc::{AllocError, Global};
 use std::hash::{Hash, Hasher};
@@ -111,7 +112,7 @@ impl PartialEq for Name {
     ghost laws = { Prim.search (comparing, rules) };
 
     fn eq(&self, other: &Name) -> bool {
-        self.shared == other.shared
+        same_bytes(self.as_str().as_bytes(), other.as_str().as_bytes())
     }
 }
 
