@@ -40,8 +40,8 @@ impl From<AllocError> for LineFault {
     }
 }
 
-// For how many tokens there is room at once: few lines have more.
-const COMMON_TOKENS: usize = 8;
+// There is room at once for a token in so many bytes, and for two more: few lines have more.
+const COMMON_LENGTH: usize = 3;
 
 fn may_sign(line: &[u8], at: usize) -> bool
     requires { at ≤ length line.now }
@@ -76,7 +76,7 @@ fn cut(alloc: Global, line: &[u8]) -> Result<Vec<Token>, LineFault>
     ensures refused { IfErr result (λ e. Refuses line.now e) }
     ensures never_long { IsErrOf result LineFault.TooLong → ⊥ }
 {
-    let mut out = Vec::with_capacity(alloc, COMMON_TOKENS)?;
+    let mut out = Vec::with_capacity(alloc, line.len() / COMMON_LENGTH + 2)?;
     let mut at = 0;
     while at < line.len() {
         let start = past_blanks(line, at);
