@@ -15,7 +15,7 @@ ghost use Rattle.line_forms.specs.Told.{ahead, IsToldFormula, IsToldKey, IsToldS
 
 use crate::unread::{NotThere, Unread};
 use formula_text::{Allow, FormulaFault, Rough, Wired, read_rough, wire};
-use sig_base::{Name, NameFault, NoMemory, Scalar, Text, TextFault};
+use sig_base::{Name, NameFault, NoMemory, Scalar, Text, TextFault, same_bytes};
 use sig_words::{Token, TokenKind, literal, token_bytes};
 use std::alloc::Global;
 use std::str;
@@ -25,7 +25,7 @@ fn is_symbol(line: &[u8], token: &Token, text: &[u8]) -> bool
     ensures { result ≡ same (symbol text.now) (lexeme line.now token.now) }
 {
     match token.kind {
-        TokenKind::Symbol => token_bytes(line, token) == text,
+        TokenKind::Symbol => same_bytes(token_bytes(line, token), text),
         _ => false,
     }
 }
@@ -115,7 +115,7 @@ fn is_word(line: &[u8], token: &Token, text: &[u8]) -> bool
     ensures { result ≡ same (word text.now) (lexeme line.now token.now) }
 {
     match token.kind {
-        TokenKind::Word => token_bytes(line, token) == text,
+        TokenKind::Word => same_bytes(token_bytes(line, token), text),
         _ => false,
     }
 }
@@ -221,9 +221,9 @@ pub fn tag_at(
 fn truth_of(word: &[u8]) -> Option<Scalar>
     ensures { result ≡ truth_of word.now }
 {
-    if word == b"true".as_slice() {
+    if same_bytes(word, b"true") {
         Some(Scalar::Bool(true))
-    } else if word == b"false".as_slice() {
+    } else if same_bytes(word, b"false") {
         Some(Scalar::Bool(false))
     } else {
         None

@@ -7,7 +7,7 @@ ghost use Rattle.formula_text.specs.Refusals.{slot_of, with_name};
 ghost use Rattle.line_forms.specs.Slots.{among_names, reslotted, slot_in, with_each};
 
 use formula_text::Wired;
-use sig_base::{Name, NoMemory};
+use sig_base::{Name, NoMemory, same_bytes};
 use sig_formula::Formula;
 use std::alloc::Global;
 
@@ -15,7 +15,7 @@ use std::alloc::Global;
 fn is_among(names: &[Name], name: &Name) -> bool
     ensures { result ≡ list_any (λ m. bytes_eq m name.now) names.now }
 {
-    names.iter().any(|other| other.as_str() == name.as_str())
+    names.iter().any(|other| same_bytes(other.as_str().as_bytes(), name.as_str().as_bytes()))
 }
 
 /// Appends a name that isn't there.
@@ -43,9 +43,7 @@ fn place_of(names: &[Name], name: &Name) -> Option<usize>
     ensures place { result ≡ position (λ m. bytes_eq m name.now) names.now }
     ensures within { IfSome result (λ i. i < length names.now) }
 {
-    names
-        .iter()
-        .position(|other| other.as_str() == name.as_str())
+    names.iter().position(|other| same_bytes(other.as_str().as_bytes(), name.as_str().as_bytes()))
 }
 
 /// The slot of a name among few.
