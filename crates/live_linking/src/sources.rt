@@ -22,7 +22,7 @@ pub struct LinkedSource {
 pub fn signals_of(alloc: Global, names: &Names, used: &[Name]) -> Result<Vec<NodeId>, NoMemory>
     ensures { IfOk result (λ s. s.items ≡ map (number_of names.now) used.now) }
 {
-    let mut signals = Vec::new(alloc);
+    let mut signals = Vec::with_capacity(alloc, used.len())?;
     for name in used {
         signals.push(NodeId::of(names.number_of(name)))?;
     }

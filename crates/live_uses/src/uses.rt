@@ -29,6 +29,7 @@ pub(crate) fn put_use<'a>(
 pub(crate) fn put_signals<'a>(uses: &mut Vec<Use<'a>>, names: &'a [Name]) -> Result<(), NoMemory>
     ensures { OnOk result (map use_of uses.new.items ≡ map use_of uses.old.items ++ uses_of_signals names.now) }
 {
+    uses.reserve(names.len())?;
     for name in names {
         put_use(uses, name, Need::Signal)?;
     }
