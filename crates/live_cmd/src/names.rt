@@ -8,7 +8,7 @@ ghost use Rattle.line_forms.specs.Reader.{name_of, read_form, read_one, read_per
 ghost use Rattle.line_forms.specs.Told.{ahead};
 
 use line_forms::{NotThere, ends_at, word_at};
-use sig_base::{Name, NameFault, NoMemory, is_name};
+use sig_base::{Name, NoMemory, is_name};
 use sig_words::{Token, TokenKind, token_bytes};
 use std::alloc::Global;
 use std::str;
@@ -101,11 +101,7 @@ pub fn made(alloc: Global, text: &str) -> Result<Name, NoMemory>
     requires { is_name text.now ≡ true }
     ensures { IfOk result (λ n. n ≡ text.now) }
 {
-    match Name::new(alloc, text) {
-        Ok(name) => Ok(name),
-        Err(NameFault::Bad) => unreachable!(),
-        Err(NameFault::NoMemory(e)) => Err(e),
-    }
+    Name::of_judged(alloc, text)
 }
 
 /// The name of an owner, if there is one.

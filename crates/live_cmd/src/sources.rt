@@ -1,48 +1,36 @@
 // Reads the lines of computeds.
-ghost use Rattle.std.specs.Prelude.{◌≡◌, ◌∷◌, [], ℕ, List, None, Some, MatchOption};
+ghost use Rattle.std.specs.Prelude.{◌≡◌, ◌∷◌, [], ℕ, List, true, codes, option_map};
+ghost use Rattle.sig_base.specs.Words.{is_name};
+ghost use Rattle.sig_words.specs.Lexemes.{word};
 ghost use Rattle.sig_words.specs.Tokens.{AreTokens};
 ghost use Rattle.formula_text.specs.Grammar.{Draft};
+ghost use Rattle.formula_text.specs.Rough.{draft, HasLeaves};
 ghost use Rattle.line_forms.specs.Forms as form;
-ghost use Rattle.line_forms.specs.Reader.{read_part};
+ghost use Rattle.line_forms.specs.Reader.{read_form};
 ghost use Rattle.line_forms.specs.Reads.{IfRead};
 ghost use Rattle.line_forms.specs.Told.{ahead, IsToldArguments, IsToldFormula};
 ghost use Rattle.live_cmd.specs.Grammar as rows;
 ghost use Rattle.live_cmd.specs.Refusals.{tracked};
-ghost use Rattle.live_cmd.specs.Views.{found_as, found_first, found_of};
+ghost use Rattle.live_cmd.specs.Views.{found_first, found_of};
 
 use crate::line::{Found, alone, faulty};
 use crate::names::{inside_text_last, made, made_owned, name_text_at};
 use crate::reader::TRACKED;
 use crate::{Command, SourceText};
+use formula_text::Rough;
 use line_forms::{
-    ToldArguments, ToldFormula, Unread, arguments_at, count_at, ends_at, formula_at, symbol_at,
+    ToldArguments, ToldFormula, Unread, arguments_at, count_at, ends_at, rough_at, symbol_at, told,
     word_at,
 };
 use sig_base::Name;
 use sig_words::Token;
 use std::alloc::Global;
 
-// The longest formula from a place on, or what is wrong with it, behind a pointer, and the place after it.
-fn formula_held(
-    alloc: Global,
-    line: &[u8],
-    tokens: &[Token],
-    at: usize,
-) -> Result<(Box<ToldFormula>, usize), Unread>
-    requires { AreTokens line.now tokens.now }
-    ensures { IfRead result (λ found. MatchOption found (read_part form.formula (ahead line.now tokens.now at) ≡ None)
-        (λ p. (x : Draft) × (read_part form.formula (ahead line.now tokens.now at) ≡ Some (x, ahead line.now tokens.now p.1)) × IsToldFormula tracked x p.0.value)) }
-{
-    let (formula, to) = formula_at(alloc, line, tokens, at, TRACKED)?;
-    let held = Box::new(alloc, formula)?;
-    Ok((held, to))
-}
-
 // What is found of a computed of a formula, or what is wrong with the formula.
-fn computed_found(name: Name, formula: Box<ToldFormula>, inside: Option<Name>) -> Found
-    ensures { (x : Draft) → IsToldFormula tracked x formula.value → result ≡ found_of (rows.computed, (name, (x, (inside, tt)))) }
+fn computed_found(name: Name, formula: ToldFormula, inside: Option<Name>) -> Found
+    ensures { (x : Draft) → IsToldFormula tracked x formula → result ≡ found_of (rows.computed, (name, (x, (inside, tt)))) }
 {
-    match Box::into_inner(formula) {
+    match formula {
         Ok(formula) => {
             let source = SourceText::Formula(formula);
             alone(Command::Computed {
@@ -55,17 +43,43 @@ fn computed_found(name: Name, formula: Box<ToldFormula>, inside: Option<Name>) -
     }
 }
 
-// `computed N = FORMULA [in O]`
-fn computed(alloc: Global, line: &[u8], tokens: &[Token]) -> Result<Found, Unread>
-    requires { AreTokens line.now tokens.now }
-    ensures { IfRead result (λ found. found ≡ found_as rows.computed (ahead line.now tokens.now 1)) }
+// `[in O]`, behind the name of a computed and its formula, which is judged last, so that what it is crosses no early end.
+fn computed_of(
+    alloc: Global,
+    line: &[u8],
+    tokens: &[Token],
+    name: &str,
+    rough: &Rough,
+    at: usize,
+) -> Result<Found, Unread>
+    requires of_line { AreTokens line.now tokens.now }
+    requires name { is_name name.now ≡ true }
+    requires leaves { HasLeaves line.now tokens.now rough.now }
+    ensures { IfRead result (λ found. found ≡ option_map (λ a. found_of (rows.computed, a)) (option_map (λ a. (name.now, a))
+        (option_map (λ a. (draft line.now tokens.now rough.now, a)) (read_form (rows.in_O ∷ []) (ahead line.now tokens.now at))))) }
 {
-    let (name, at) = name_text_at(line, tokens, 1)?;
-    let at = symbol_at(line, tokens, at, b"=")?;
-    let (formula, at) = formula_held(alloc, line, tokens, at)?;
     let inside = inside_text_last(line, tokens, at)?;
     let (name, inside) = made_owned(alloc, name, inside)?;
+    let formula = told(alloc, line, tokens, rough, TRACKED)?;
     Ok(computed_found(name, formula, inside))
+}
+
+// `FORMULA [in O]`, behind the name of a computed and `=`
+fn computed(
+    alloc: Global,
+    line: &[u8],
+    tokens: &[Token],
+    name: &str,
+    at: usize,
+) -> Result<Found, Unread>
+    requires of_line { AreTokens line.now tokens.now }
+    requires name { is_name name.now ≡ true }
+    ensures { IfRead result (λ found. found ≡ option_map (λ a. found_of (rows.computed, a))
+        (option_map (λ a. (name.now, a)) (read_form (form.part form.formula ∷ rows.in_O ∷ []) (ahead line.now tokens.now at)))) }
+{
+    let (rough, at) = rough_at(alloc, line, tokens, at)?;
+    let found = computed_of(alloc, line, tokens, name, &rough, at)?;
+    Ok(found)
 }
 
 // What is found of a computed of a host formula, or what is wrong with the arguments.
@@ -91,12 +105,20 @@ fn computed_host_found(
     }
 }
 
-// `computed N = host K (a, b) [in O]`
-fn computed_host(alloc: Global, line: &[u8], tokens: &[Token]) -> Result<Found, Unread>
-    ensures { IfRead result (λ found. found ≡ found_as rows.computed_host (ahead line.now tokens.now 1)) }
+// `host K (a, b) [in O]`, behind the name of a computed and `=`
+fn computed_host(
+    alloc: Global,
+    line: &[u8],
+    tokens: &[Token],
+    name: &str,
+    at: usize,
+) -> Result<Found, Unread>
+    requires { is_name name.now ≡ true }
+    ensures { IfRead result (λ found. found ≡ option_map (λ a. found_of (rows.computed_host, a))
+        (option_map (λ a. (name.now, a))
+        (read_form (form.fixed (word (codes "host"))
+        ∷ form.part (form.one form.count) ∷ form.part form.arguments ∷ rows.in_O ∷ []) (ahead line.now tokens.now at)))) }
 {
-    let (name, at) = name_text_at(line, tokens, 1)?;
-    let at = symbol_at(line, tokens, at, b"=")?;
     let at = word_at(line, tokens, at, b"host")?;
     let (place, at) = count_at(line, tokens, at)?;
     let (arguments, at) = arguments_at(alloc, line, tokens, at)?;
@@ -110,17 +132,19 @@ pub fn any_computed(alloc: Global, line: &[u8], tokens: &[Token]) -> Result<Foun
     requires { AreTokens line.now tokens.now }
     ensures { IfRead result (λ found. found ≡ found_first (rows.computed_host ∷ rows.computed ∷ []) (ahead line.now tokens.now 1)) }
 {
-    match computed_host(alloc, line, tokens) {
-        Err(Unread::NotThere) => computed(alloc, line, tokens),
+    let (name, at) = name_text_at(line, tokens, 1)?;
+    let at = symbol_at(line, tokens, at, b"=")?;
+    match computed_host(alloc, line, tokens, name, at) {
+        Err(Unread::NotThere) => computed(alloc, line, tokens, name, at),
         found => found,
     }
 }
 
 // What is found of another formula of a computed, or what is wrong with it.
-fn rewire_found(name: Name, formula: Box<ToldFormula>) -> Found
-    ensures { (x : Draft) → IsToldFormula tracked x formula.value → result ≡ found_of (rows.rewire, (name, (x, tt))) }
+fn rewire_found(name: Name, formula: ToldFormula) -> Found
+    ensures { (x : Draft) → IsToldFormula tracked x formula → result ≡ found_of (rows.rewire, (name, (x, tt))) }
 {
-    match Box::into_inner(formula) {
+    match formula {
         Ok(formula) => {
             let source = SourceText::Formula(formula);
             alone(Command::Rewire { name, source })
@@ -129,17 +153,43 @@ fn rewire_found(name: Name, formula: Box<ToldFormula>) -> Found
     }
 }
 
-// `rewire N = FORMULA`
-fn rewire(alloc: Global, line: &[u8], tokens: &[Token]) -> Result<Found, Unread>
-    requires { AreTokens line.now tokens.now }
-    ensures { IfRead result (λ found. found ≡ found_as rows.rewire (ahead line.now tokens.now 1)) }
+// The end of the line behind the name of a computed and another formula, which is judged last.
+fn rewire_of(
+    alloc: Global,
+    line: &[u8],
+    tokens: &[Token],
+    name: &str,
+    rough: &Rough,
+    at: usize,
+) -> Result<Found, Unread>
+    requires of_line { AreTokens line.now tokens.now }
+    requires name { is_name name.now ≡ true }
+    requires leaves { HasLeaves line.now tokens.now rough.now }
+    ensures { IfRead result (λ found. found ≡ option_map (λ a. found_of (rows.rewire, a)) (option_map (λ a. (name.now, a))
+        (option_map (λ a. (draft line.now tokens.now rough.now, a)) (read_form [] (ahead line.now tokens.now at))))) }
 {
-    let (name, at) = name_text_at(line, tokens, 1)?;
-    let at = symbol_at(line, tokens, at, b"=")?;
-    let (formula, at) = formula_held(alloc, line, tokens, at)?;
     ends_at(tokens, at)?;
     let name = made(alloc, name)?;
+    let formula = told(alloc, line, tokens, rough, TRACKED)?;
     Ok(rewire_found(name, formula))
+}
+
+// `FORMULA`, behind the name of a computed and `=`
+fn rewire(
+    alloc: Global,
+    line: &[u8],
+    tokens: &[Token],
+    name: &str,
+    at: usize,
+) -> Result<Found, Unread>
+    requires of_line { AreTokens line.now tokens.now }
+    requires name { is_name name.now ≡ true }
+    ensures { IfRead result (λ found. found ≡ option_map (λ a. found_of (rows.rewire, a))
+        (option_map (λ a. (name.now, a)) (read_form (form.part form.formula ∷ []) (ahead line.now tokens.now at)))) }
+{
+    let (rough, at) = rough_at(alloc, line, tokens, at)?;
+    let found = rewire_of(alloc, line, tokens, name, &rough, at)?;
+    Ok(found)
 }
 
 // What is found of another host formula of a computed, or what is wrong with its arguments.
@@ -155,12 +205,20 @@ fn rewire_host_found(name: Name, place: u64, arguments: ToldArguments) -> Found
     }
 }
 
-// `rewire N = host K (a, b)`
-fn rewire_host(alloc: Global, line: &[u8], tokens: &[Token]) -> Result<Found, Unread>
-    ensures { IfRead result (λ found. found ≡ found_as rows.rewire_host (ahead line.now tokens.now 1)) }
+// `host K (a, b)`, behind the name of a computed and `=`
+fn rewire_host(
+    alloc: Global,
+    line: &[u8],
+    tokens: &[Token],
+    name: &str,
+    at: usize,
+) -> Result<Found, Unread>
+    requires { is_name name.now ≡ true }
+    ensures { IfRead result (λ found. found ≡ option_map (λ a. found_of (rows.rewire_host, a))
+        (option_map (λ a. (name.now, a))
+        (read_form (form.fixed (word (codes "host"))
+        ∷ form.part (form.one form.count) ∷ form.part form.arguments ∷ []) (ahead line.now tokens.now at)))) }
 {
-    let (name, at) = name_text_at(line, tokens, 1)?;
-    let at = symbol_at(line, tokens, at, b"=")?;
     let at = word_at(line, tokens, at, b"host")?;
     let (place, at) = count_at(line, tokens, at)?;
     let (arguments, at) = arguments_at(alloc, line, tokens, at)?;
@@ -174,8 +232,10 @@ pub fn any_rewire(alloc: Global, line: &[u8], tokens: &[Token]) -> Result<Found,
     requires { AreTokens line.now tokens.now }
     ensures { IfRead result (λ found. found ≡ found_first (rows.rewire_host ∷ rows.rewire ∷ []) (ahead line.now tokens.now 1)) }
 {
-    match rewire_host(alloc, line, tokens) {
-        Err(Unread::NotThere) => rewire(alloc, line, tokens),
+    let (name, at) = name_text_at(line, tokens, 1)?;
+    let at = symbol_at(line, tokens, at, b"=")?;
+    match rewire_host(alloc, line, tokens, name, at) {
+        Err(Unread::NotThere) => rewire(alloc, line, tokens, name, at),
         found => found,
     }
 }
