@@ -1,14 +1,17 @@
 -- What was found in a line says what its bytes begin or end.
-use Rattle.std.proofs.Common.{◌≡◌, ℕ, Bool, false, List, Option, Some, None, refl, sym, subst}
+use Rattle.std.proofs.Common.{◌≡◌, ℕ, Bool, true, false, List, Option, Some, None, codes, refl, sym, subst, ◌∙◌}
 use Rattle.std.specs.Prelude.{MatchOption}
+use Rattle.std.specs.Str.{bytes_eq}
+use Rattle.std.proofs.lemmas.Slice.Eq.{bytes_eq-Decides}
 use Rattle.formula_text.specs.declared.wired.FormulaFault.{FormulaFault}
 use Rattle.line_forms.specs.Forms.{Args}
 use Rattle.line_forms.specs.Told.{unless_faulty}
+use Rattle.line_forms.proofs.Shared.{text_writes}
 use Rattle.live_cmd.specs.declared.contents.Head.{Head}
 use Rattle.live_cmd.specs.declared.line.Found.{Found}
 use Rattle.live_cmd.specs.declared.line.Line.{Line}
 use Rattle.live_cmd.specs.Blocks.{Ends, IsNoHead, is_head, said_head}
-use Rattle.live_cmd.specs.Grammar.{Row, row, Said, Writes, said_line, effect, on, template, close}
+use Rattle.live_cmd.specs.Grammar.{Row, row, commands, Said, Writes, said_line, effect, on, template, close}
 use Rattle.live_cmd.specs.Refusals.{fault_of}
 use Rattle.live_cmd.specs.Views.{end_told, found_of, head_of, head_told, is_end, line_or_fault}
 use Rattle.live_cmd.proofs.Blocks.{no_close}
@@ -32,6 +35,10 @@ end_found bytes f h = subst (λ (g : Found). Ends (end_told g.line) bytes) (sym 
 -- a line that says nothing is none
 pub end_none : (bytes : List ℕ) → ((x : Said) → Writes x bytes → ⊥) → Ends false bytes
 end_none bytes none = λ w. none (close, tt) w
+
+-- the word alone is one
+pub end_alone : (bytes w : List ℕ) → bytes_eq bytes w ≡ true → w ≡ codes "end" → Ends true bytes
+end_alone bytes w same is = rw ((bytes_eq-Decides bytes w).0 same ∙ is) (text_writes commands (close, tt) refl tt)
 
 -- ---- heads
 

@@ -85,11 +85,14 @@ fn head_at(alloc: Global, line: &[u8]) -> Result<Option<Head>, NoMemory>
     Ok(head)
 }
 
-// Whether bytes write an `end`.
+// Whether bytes write an `end`. Where they are the word alone it isn't cut into tokens.
 fn is_end(alloc: Global, line: &[u8]) -> Result<bool, NoMemory>
     requires { length line.now ≤ MOST_LINE }
     ensures { IfOk result (λ b. Ends b line.now) }
 {
+    if line == b"end".as_slice() {
+        return Ok(true);
+    }
     let Some(found) = read_line(alloc, line)? else {
         return Ok(false);
     };

@@ -263,17 +263,34 @@ fn behind_other_word(
     }
 }
 
-// What the tokens behind a first word say. The commonest is looked at before all others.
+// What the tokens behind any first word say.
+fn behind_any_word(
+    alloc: Global,
+    line: &[u8],
+    tokens: &[Token],
+    word: &str,
+) -> Result<Found, Unread>
+    requires { AreTokens line.now tokens.now }
+    ensures { IfRead result (λ found. found ≡ found_first (rows_of word.now table) (ahead line.now tokens.now 1)) }
+{
+    match Verb::of(word) {
+        Some(verb) => named(alloc, line, tokens, verb),
+        None => behind_other_word(alloc, line, tokens, word),
+    }
+}
+
+// So it is too where the commonest words are looked at before all others.
 fn behind_word(alloc: Global, line: &[u8], tokens: &[Token], word: &str) -> Result<Found, Unread>
     requires { AreTokens line.now tokens.now }
     ensures { IfRead result (λ found. found ≡ found_first (rows_of word.now table) (ahead line.now tokens.now 1)) }
 {
-    if word == "set" {
-        return set(alloc, line, tokens);
-    }
-    match Verb::of(word) {
-        Some(verb) => named(alloc, line, tokens, verb),
-        None => behind_other_word(alloc, line, tokens, word),
+    match word {
+        "set" => set(alloc, line, tokens),
+        "computed" => any_computed(alloc, line, tokens),
+        "cell" => cell(alloc, line, tokens),
+        "effect" => effect(alloc, line, tokens),
+        "end" => Ok(close(line, tokens)?),
+        _ => behind_any_word(alloc, line, tokens, word),
     }
 }
 

@@ -4,7 +4,7 @@ use Rattle.line_forms.specs.Told.{ahead}
 use Rattle.live_cmd.specs.Grammar.{Row}
 use Rattle.live_cmd.specs.Views.{found_first}
 use Rattle.live_cmd.proofs.Spellings.{rows_of_other, verb_rows}
-use Rattle.live_cmd.proofs.reader.behind_word.Goals as goal
+use Rattle.live_cmd.proofs.reader.behind_any_word.Goals as goal
 
 pub returns-in-Some : goal.returns-in-Some
 returns-in-Some c =
