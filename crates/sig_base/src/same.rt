@@ -57,7 +57,7 @@ fn same_few(one: &[u8], other: &[u8]) -> bool
 }
 
 /// Whether bytes are the same; where they stand next to each other in a search this is told without a call.
-#[inline]
+#[inline(always)]
 pub fn same_bytes(one: &[u8], other: &[u8]) -> bool
     ensures { result ≡ bytes_eq one.now other.now }
 {
