@@ -1,5 +1,6 @@
 // Names that were heard at another time, heard again.
-ghost use Rattle.std.specs.Prelude.{◌≡◌, ◌≤◌, [], length, take, true, Some, IfOk, IfSome, OnOk};
+ghost use Rattle.std.specs.Prelude.{◌≡◌, ◌<◌, ◌≤◌, [], length, slice_get, take, true, Some, IfOk, IfSome, OnOk};
+ghost use Rattle.std.specs.List.{zip};
 ghost use Rattle.std.specs.Map.{keys_of};
 ghost use Rattle.signal_laws.specs.ReadLaws.{with_name};
 ghost use Rattle.tpl_hearing.specs.Heard.{scene, CanSettle, Hears};
@@ -7,7 +8,7 @@ ghost use Rattle.tpl_hearing.specs.HeardAgain.{heard_by, AreCompared, AreHeardAg
 
 use crate::comparisons::{Rehearing, hear_compared};
 use crate::outcomes::{Outcomes, settle_again};
-use sig_base::{NoMemory, NodeId};
+use sig_base::{NoMemory, NodeId, Outcome};
 use sig_computed::RunNote;
 use sig_graph::Graph;
 use sig_host::{Lent, Shelf};
@@ -115,6 +116,16 @@ fn front(alloc: Global, before: &Outcomes, count: usize) -> Result<Rehearing, No
     Ok(hearing)
 }
 
+// The name and the outcome at a place.
+#[inline(always)]
+fn pair_at<'a>(ids: &[NodeId], outcomes: &'a [Outcome], place: usize) -> (NodeId, &'a Outcome)
+    requires within { length outcomes.now ≤ length ids.now }
+    requires place { place < length outcomes.now }
+    ensures { slice_get (zip ids.now outcomes.now) place ≡ Some (result.0, result.1.now) }
+{
+    (ids[place], &outcomes[place])
+}
+
 /// Hears all names that were heard before again, in their order, up to the first that has another outcome: what was heard then, or nothing where
 /// each has the outcome of before.
 ///
@@ -137,8 +148,10 @@ pub fn hear_all_again(
     ensures can { OnOk result (CanSettle (scene graph.new (⟦<Shelf as Lent>⟧.asked shelf.new) notes.new.items)) }
     ensures counted { OnOk result (⟦<Shelf as Lent>⟧.counted shelf.new) }
 {
-    for place in 0..before.count() {
-        let (id, was) = before.at(place);
+    let count = before.count();
+    let (ids, outcomes) = before.lists();
+    for place in 0..count {
+        let (id, was) = pair_at(ids, outcomes, place);
         if let Some(outcome) = settle_again(graph, shelf, id, was, notes)? {
             let mut hearing = front(*notes.allocator(), before, place)?;
             hearing.put(id, outcome, false)?;

@@ -151,26 +151,32 @@ impl Rehearing {
         }
     }
 
-    // Whether a name was heard and has the outcome of before.
-    fn is_same(&self, before: &Outcomes, id: NodeId) -> bool
+    // Whether a name was heard and has the outcome of before. It is noted at a place mostly.
+    fn is_same(&self, before: &Outcomes, place: usize, id: NodeId) -> bool
         requires { AreCompared before.now self.now }
         ensures { result ≡ true → IsAsBefore before.now self.now.heard id }
     {
+        if let Some(same) = self.compared.known(place, id) {
+            return same;
+        }
         match self.known(before, id) {
             Some(same) => same,
             None => false,
         }
     }
 
-    /// Whether each of these names was heard before this call and has the outcome of before. Nothing is heard.
-    pub fn are_same(&self, before: &Outcomes, ids: &[NodeId]) -> bool
+    /// Whether each of these names was heard before this call and has the outcome of before. Nothing is heard. They are looked for from a place on,
+    /// one after the other.
+    pub fn are_same(&self, before: &Outcomes, from: usize, ids: &[NodeId]) -> bool
         requires { AreCompared before.now self.now }
         ensures { result ≡ true → AreSame before.now ids.now self.now.heard self.now.heard }
     {
+        let mut place = from;
         for id in ids {
-            if !self.is_same(before, *id) {
+            if !self.is_same(before, place, *id) {
                 return false;
             }
+            place = place.wrapping_add(1);
         }
         true
     }

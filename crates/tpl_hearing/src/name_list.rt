@@ -146,6 +146,17 @@ impl NameList {
         }
     }
 
+    /// The names in order.
+    #[inline(always)]
+    pub fn as_slice(&self) -> &[NodeId]
+        ensures { result.now ≡ self.now }
+    {
+        match &self.shared {
+            Some(names) => names.as_slice(),
+            None => &[],
+        }
+    }
+
     /// The name at a place.
     pub fn at(&self, place: usize) -> Option<NodeId>
         ensures { result ≡ slice_get self.now place }

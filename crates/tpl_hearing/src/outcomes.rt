@@ -218,6 +218,15 @@ impl Outcomes {
         self.outcomes.len()
     }
 
+    /// The names that were heard, and perhaps others behind them, and the outcomes that were heard.
+    #[inline(always)]
+    pub(crate) fn lists(&self) -> (&[NodeId], &[Outcome])
+        ensures pairs { zip result.0.now result.1.now ≡ self.now }
+        ensures within { length result.1.now ≤ length result.0.now }
+    {
+        (self.names.as_slice(), self.outcomes.as_slice())
+    }
+
     /// The name that was heard at a place, and its outcome.
     pub(crate) fn at(&self, place: usize) -> (NodeId, &Outcome)
         requires { place < length self.now }

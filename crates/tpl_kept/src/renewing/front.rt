@@ -24,13 +24,13 @@ use tpl_blocks::Block;
 use tpl_hearing::{Outcomes, Rehearing};
 use tpl_model::{Change, Heard, PageMemo};
 
-// Whether what is kept begins with a text whose names were all heard and have the outcomes of before.
-fn stays_first(before: &Outcomes, hearing: &Rehearing, memo: &PageMemo) -> bool
+// Whether what is kept begins with a text whose names were all heard and have the outcomes of before. They are looked for from a place on.
+fn stays_first(before: &Outcomes, hearing: &Rehearing, near: usize, memo: &PageMemo) -> bool
     requires { AreCompared before.now hearing.now }
     ensures { result ≡ true → StaysFirst before.now hearing.now.heard (kept memo.now) }
 {
     match memo {
-        PageMemo::Line(line, _) => hearing.are_same(before, &line.names),
+        PageMemo::Line(line, _) => hearing.are_same(before, near, &line.names),
         _ => false,
     }
 }
@@ -89,7 +89,7 @@ fn put_text(
 }
 
 // Brings what is kept of lines up to date: the texts with which they begin stay as long as all their names were heard already and have the outcomes
-// of before, and from there on the others are renewed. Its clauses are those of renewing.
+// of before, and from there on the others are renewed. The names are looked for from a place on. Its clauses are those of renewing.
 fn renew_behind(
     alloc: Global,
     graph: &mut Graph,
@@ -97,6 +97,7 @@ fn renew_behind(
     before: &Outcomes,
     hearing: &mut Rehearing,
     lines: &Block,
+    near: usize,
     memo: Box<PageMemo>,
     links: &[NodeId],
     row: Option<&RowRef>,
@@ -116,7 +117,7 @@ fn renew_behind(
     ensures counted { OnOk result (⟦<Shelf as Lent>⟧.counted shelf.new) }
     ensures compared { OnOk result (AreCompared before.now hearing.new) }
 {
-    if !stays_first(before, hearing, &memo) {
+    if !stays_first(before, hearing, near, &memo) {
         let mut place = memo;
         let all = Box::replace(&mut place, PageMemo::blank());
         let renewed = renew_on(
@@ -126,8 +127,9 @@ fn renew_behind(
     }
     let (text, later, place) = text_apart(memo);
     let rest = rest_of(lines);
+    let next = near.saturating_add(text.names.len());
     let behind = renew_behind(
-        alloc, graph, shelf, before, hearing, rest, later, links, row, notes,
+        alloc, graph, shelf, before, hearing, rest, next, later, links, row, notes,
     )?;
     let all = put_text(alloc, text, behind, place)?;
     Ok(all)
@@ -172,7 +174,7 @@ pub fn renew(
 {
     let own = Box::new(alloc, memo)?;
     let behind = renew_behind(
-        alloc, graph, shelf, before, hearing, lines, own, links, row, notes,
+        alloc, graph, shelf, before, hearing, lines, 0, own, links, row, notes,
     )?;
     let Behind { memo, change } = behind;
     Ok(Renewed {
