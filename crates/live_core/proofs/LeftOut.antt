@@ -1,6 +1,5 @@
 -- Where the runs on the way aren't told, all is as where they are.
 use Rattle.std.proofs.Common.{◌≡◌, Bool, true, false, List, [], ◌∷◌, ◌++◌, map, Option, Some, None, Result, Ok, Err, IfOk, ℕ, refl, sym, ap, subst, ◌∙◌}
-use Rattle.std.specs.List.{AllByRecursion}
 use Rattle.std.specs.Option.{option_map}
 use Rattle.signal_model.specs.Recipes.{Hosts}
 use Rattle.sig_host.specs.Hosts.{HostPlace}
@@ -13,7 +12,7 @@ use Rattle.why_model.specs.Facts.{has_run}
 use Rattle.why_model.specs.Records.{Journal, with_fact, with_facts}
 use Rattle.live_why.specs.Views as noted
 use Rattle.live_entries.specs.declared.entry.Entry.{Entry}
-use Rattle.live_entries.specs.Printed.{is_traced}
+use Rattle.live_entries.specs.Printed.{AreTraced}
 use Rattle.live_model.specs.Journals.{noting}
 use Rattle.live_model.specs.Labels as called
 use Rattle.live_model.specs.Machine.{Told}
@@ -29,7 +28,7 @@ abbrev pub ran : List RunNote → List Event
 ran ns = map event.Run ns
 
 -- what is told of runs is told only in a trace
-pub traced_runs : (l : called.Labels) (ns : List RunNote) → AllByRecursion (λ e. is_traced e ≡ true) (told_by l (ran ns))
+pub traced_runs : (l : called.Labels) (ns : List RunNote) → AreTraced (told_by l (ran ns))
 traced_runs l [] = tt
 traced_runs l (n ∷ ns) = (refl, traced_runs l ns)
 

@@ -1,12 +1,11 @@
 -- What a command that may ask host formulas asks for, and what it leaves.
 use Rattle.std.specs.Prelude.{◌≡◌, ◌≤◌, ◌<◌, ◌+◌, ◌++◌, ℕ, Bool, true, List, []}
-use Rattle.std.specs.List.{AllByRecursion}
 use Rattle.signal_model.specs.Recipes.{Hosts}
 use Rattle.sig_host.specs.Hosts.{HostPlace, most_asked}
 use Rattle.effect_world.specs.Costs.{weight}
 use Rattle.effect_world.specs.Stores.{Agrees, IsSound}
 use Rattle.live_entries.specs.declared.entry.Entry.{Entry}
-use Rattle.live_entries.specs.Printed.{is_traced}
+use Rattle.live_entries.specs.Printed.{AreTraced}
 use Rattle.live_model.specs.Machine as plain
 use Rattle.live_model.specs.Machine.{Told}
 use Rattle.live_core.specs.Consistency.{IsReady, Leaves, Steps, WorldAgrees}
@@ -42,7 +41,7 @@ pub record Did (asked later : List HostPlace) (rules : ℕ) (old new : Machine) 
 
 -- Of what is told these entries in front aren't given, which are printed only in a trace; none where one is asked for.
 pub record AreUntold (traced : Bool) (front : List Entry) : Type 0 where
-  pub hidden : AllByRecursion (λ e. is_traced e ≡ true) front
+  pub hidden : AreTraced front
   pub whole : traced ≡ true → front ≡ []
 
 -- A command was done so, and what is told is these entries behind some that aren't given.

@@ -1,6 +1,7 @@
 -- The lines in which entries are printed.
-use Rattle.std.specs.Prelude.{ℕ, Bool, true, false, List, [], ◌∷◌, ◌++◌, ◌&&◌, not, length, flat_map, codes, if◌then◌else◌}
+use Rattle.std.specs.Prelude.{◌≡◌, ℕ, Bool, true, false, List, [], ◌∷◌, ◌++◌, ◌&&◌, not, length, flat_map, codes, if◌then◌else◌}
 use Rattle.std.specs.Fmt.{decimal}
+use Rattle.std.specs.List.{AllByRecursion}
 use Rattle.sig_base.specs.Printer.{printed as printed_value, fault_name, quoted}
 use Rattle.sig_base.specs.declared.value.Fault.{Fault}
 use Rattle.sig_base.specs.declared.value.Outcome.{Outcome}
@@ -213,6 +214,10 @@ is_traced (entry.Cleanup l) = true
 is_traced (entry.Gone l) = true
 is_traced (entry.Fired p node) = true
 is_traced _ = false
+
+-- these are printed only where a trace is asked for
+abbrev pub AreTraced : List Entry → Type 0
+AreTraced es = AllByRecursion (λ e. is_traced e ≡ true) es
 
 -- what is printed of an entry, with a trace or without
 abbrev pub printed : Bool → Entry → List ℕ

@@ -5,13 +5,13 @@ use Rattle.bench_workload.specs.Summary.{summary_text}
 use Rattle.bench_workload.specs.declared.summary.Counts.{Counts}
 use Rattle.live_cmd.specs.declared.command.Item.{Item}
 use Rattle.live_entries.specs.declared.entry.Entry.{Entry}
-use Rattle.live_entries.specs.Printed.{line_of_entry, printed}
+use Rattle.live_entries.specs.Printed.{line_of_entry, printed, AreTraced}
 use Rattle.live_words.specs.declared.jobs.ScriptJob.TheVariants as job
 use Rattle.wire_model.specs.Notes.{Note, frame, frames}
 use Rattle.wire_model.specs.Wired.{Wires, notes_of, wired_from, wires_after}
 use Rattle.page_wire.specs.Telling.{wires_behind}
 use Rattle.live_report.specs.Counts.{added, counts_of, page_after}
-use Rattle.live_report.specs.Reports.{output_of, still, AreTraced}
+use Rattle.live_report.specs.Reports.{output_of, still}
 use Rattle.live_report.specs.declared.report.Report.TheVariants as report
 use Rattle.live_report.proofs.Sums.{added_none, counts_more, none_added, page_more}
 

@@ -1,10 +1,9 @@
 -- What a job prints of a script's items, by what they tell.
-use Rattle.std.specs.Prelude.{◌≡◌, ◌+◌, ℕ, true, false, List, [], flat_map}
-use Rattle.std.specs.List.{AllByRecursion}
+use Rattle.std.specs.Prelude.{◌+◌, ℕ, true, false, List, [], flat_map}
 use Rattle.bench_workload.specs.Summary.{summary_text}
 use Rattle.live_cmd.specs.declared.command.Item.{Item}
 use Rattle.live_entries.specs.declared.entry.Entry.{Entry}
-use Rattle.live_entries.specs.Printed.{is_traced, printed}
+use Rattle.live_entries.specs.Printed.{printed}
 use Rattle.live_words.specs.declared.jobs.ScriptJob.{ScriptJob}
 use Rattle.live_words.specs.declared.jobs.ScriptJob.TheVariants as job
 use Rattle.wire_model.specs.Notes.{frames}
@@ -32,7 +31,3 @@ unfoldable pub counted : Report → ℕ
 counted (report.Lines trace) = 0
 counted (report.Summary n counts page) = counts.commands + (counts.runs + counts.ops)
 counted (report.Frames told) = 0
-
--- these are printed only where a trace is asked for
-abbrev pub AreTraced : List Entry → Type 0
-AreTraced es = AllByRecursion (λ e. is_traced e ≡ true) es

@@ -3,8 +3,8 @@ ghost use Rattle.std.specs.Prelude.{◌≡◌, ◌≤◌, ◌<◌, ◌+◌, ◌^
 ghost use Rattle.std.specs.List.{AllByRecursion};
 ghost use Rattle.live_cmd.specs.declared.command.Item.{Item as AnItem};
 ghost use Rattle.live_entries.specs.declared.entry.Entry.{Entry as AnEntry};
-ghost use Rattle.live_entries.specs.Printed.{printed, IsSizedEntry};
-ghost use Rattle.live_report.specs.Reports.{counted, output_of, still, AreTraced};
+ghost use Rattle.live_entries.specs.Printed.{printed, AreTraced, IsSizedEntry};
+ghost use Rattle.live_report.specs.Reports.{counted, output_of, still};
 
 use crate::counters::{no_counts, turn_page, with_entries, with_item};
 use bench_workload::{Counts, put_summary};

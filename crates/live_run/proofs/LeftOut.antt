@@ -1,12 +1,11 @@
 -- What a report leaves out may be left out of what it is told.
 use Rattle.std.proofs.Common.{◌≡◌, Bool, true, false, not, List, [], ◌∷◌, ◌++◌, refl, ap}
-use Rattle.std.specs.List.{AllByRecursion}
 use Rattle.live_cmd.specs.declared.command.Item.{Item}
 use Rattle.live_entries.specs.declared.entry.Entry.{Entry}
 use Rattle.live_entries.specs.declared.entry.Entry.TheVariants as entry
-use Rattle.live_entries.specs.Printed.{is_traced, IsSizedEntry}
+use Rattle.live_entries.specs.Printed.{is_traced, AreTraced, IsSizedEntry}
 use Rattle.live_report.specs.declared.report.Report.{Report}
-use Rattle.live_report.specs.Reports.{still, AreTraced}
+use Rattle.live_report.specs.Reports.{still}
 use Rattle.live_run.specs.Jobs.{AreSized}
 
 -- what only a trace prints has no operation
