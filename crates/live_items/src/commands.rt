@@ -74,9 +74,9 @@ fn try_command(
     }
 }
 
-// Sets a cell, or refuses that, which only the name may be a reason for. What the name stands for is looked up once. What it comes to and that another
-// command may follow are two clauses, as for each set; the four that ask are those of a set that isn't refused.
-fn try_set(
+/// Sets a cell, or refuses that, which only the name may be a reason for. What the name stands for is looked up once. What it comes to and that another
+/// command may follow are two clauses, as for each set; the four that ask are those of a set that isn't refused.
+pub(crate) fn try_set(
     machine: &mut Machine,
     rules: &[EqualsRule],
     name: Name,

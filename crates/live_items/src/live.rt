@@ -12,10 +12,10 @@ ghost use Rattle.live_core.specs.Consistency.{IsKept, IsReadItem, SomeHosts};
 ghost use Rattle.live_core.specs.Doing.{TellsBehind};
 ghost use Rattle.live_core.specs.Views.{plain_of};
 
-use crate::commands::{act, try_get};
+use crate::commands::{act, try_get, try_set};
 use live_cmd::Item;
 use live_entries::Entry;
-use sig_base::{Name, NoMemory};
+use sig_base::{Name, NoMemory, Scalar};
 use sig_host::{EqualsRule, HostFormula, Lent, Shelf};
 use std::alloc::Global;
 
@@ -175,6 +175,40 @@ impl Live {
         self.broken = false;
         self.done += 1;
         Ok(entry)
+    }
+
+    /// Gives a cell a value, as `do_item` does, whose clauses it has. A set leaves nothing out of what it tells.
+    ///
+    /// # Errors
+    ///
+    /// `NoMemory` where memory ran out. After it each later call answers that too, and changes nothing.
+    pub fn set(&mut self, name: Name, value: Scalar) -> Result<Vec<Entry>, NoMemory>
+        requires kept { ⟦<Live as Running>⟧.kept self.old }
+        requires meant { self.old.broken ≡ false → SomeHosts (λ hosts. ⟦<Shelf as Lent>⟧.answers hosts self.old.shelf × ⟦<Live as Running>⟧.sound hosts self.old) }
+        requires counted { self.old.broken ≡ false → ⟦<Shelf as Lent>⟧.counted self.old.shelf }
+        requires room { self.old.done < 2 ^ 23 }
+        ensures step { (hosts : Hosts) → ⟦<Shelf as Lent>⟧.answers hosts self.old.shelf → ⟦<Live as Running>⟧.sound hosts self.old →
+            IfOk result (λ es.
+            (reached (⟦<Live as Running>⟧.machine self.new) es.items
+            ≡ step (environment hosts (⟦<Live as Running>⟧.slacks self.old)) (⟦<Live as Running>⟧.machine self.old) (item.Do (command.Set name value)))
+            × ⟦<Live as Running>⟧.sound hosts self.new × ⟦<Shelf as Lent>⟧.answers hosts self.new.shelf) }
+        ensures kept { ⟦<Live as Running>⟧.kept self.new }
+        ensures meant { self.new.broken ≡ false → SomeHosts (λ hosts. ⟦<Shelf as Lent>⟧.answers hosts self.new.shelf × ⟦<Live as Running>⟧.sound hosts self.new) }
+        ensures counted { self.new.broken ≡ false → ⟦<Shelf as Lent>⟧.counted self.new.shelf }
+        ensures slacks { ⟦<Live as Running>⟧.slacks self.new ≡ ⟦<Live as Running>⟧.slacks self.old }
+        ensures done { OnOk result (self.new.done ≡ self.old.done + 1) }
+        ensures whole { OnOk result (self.new.broken ≡ false) }
+        ensures broken { OnErr result (self.new.broken ≡ true) }
+        ensures stays { self.old.broken ≡ true → IsErr result × (self.new ≡ self.old) }
+    {
+        if self.broken {
+            return Err(NoMemory);
+        }
+        self.broken = true;
+        let entries = try_set(&mut self.machine, &self.rules, name, value)?;
+        self.broken = false;
+        self.done += 1;
+        Ok(entries)
     }
 
     /// Does one item and tells what came of it: one step of the plain machine, the entries of a trace included. A refused item changes

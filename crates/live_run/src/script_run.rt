@@ -6,21 +6,18 @@ ghost use Rattle.sig_host.specs.Hosts.{hosts_of};
 ghost use Rattle.sig_effect.specs.Stores.{environment};
 ghost use Rattle.script_lines.specs.Pieces.{pieces_of};
 ghost use Rattle.live_cmd.specs.Briefs.{brief_item};
-ghost use Rattle.live_cmd.specs.declared.command.Command.TheVariants as command;
 ghost use Rattle.live_cmd.specs.declared.command.Item.{Item as AnItem};
-ghost use Rattle.live_cmd.specs.declared.command.Item.TheVariants as item;
-ghost use Rattle.live_cmd.specs.declared.command.Verb.TheVariants as verb;
 ghost use Rattle.live_entries.specs.declared.entry.Entry.{Entry as AnEntry};
 ghost use Rattle.live_report.specs.Reports.{counted, output_of, still};
 ghost use Rattle.live_model.specs.Machine.{empty};
 ghost use Rattle.live_core.specs.Consistency.{IsReadItem, SomeHosts};
 ghost use Rattle.live_run.specs.Jobs.{DidItem, DidNext};
 
-use live_cmd::{Brief, Command, Item, KnownNames, Verb, next_brief, next_item};
+use live_cmd::{Brief, Item, KnownNames, next_brief, next_item};
 use live_items::{Live, Running};
 use live_report::Report;
 use live_words::ScriptJob;
-use sig_base::{Name, NoMemory};
+use sig_base::NoMemory;
 use sig_host::{EqualsRule, HostFormula, Lent, Shelf};
 use std::alloc::Global;
 use std::{mem, slice};
@@ -99,34 +96,8 @@ impl ScriptRun {
         Ok(())
     }
 
-    // Does a `get`, with the clauses of an item. Where the report leaves out what is told of a trace, what it tells is one entry, of which no list is made.
-    fn do_get(&mut self, name: Name) -> Result<(), NoMemory>
-        requires kept { ⟦<Live as Running>⟧.kept self.old.live }
-        requires meant { self.old.live.broken ≡ false → SomeHosts (λ hosts. ⟦<Shelf as Lent>⟧.answers hosts self.old.live.shelf × ⟦<Live as Running>⟧.sound hosts self.old.live) }
-        requires counted { self.old.live.broken ≡ false → ⟦<Shelf as Lent>⟧.counted self.old.live.shelf }
-        requires room { self.old.live.done < 2 ^ 23 }
-        requires few { counted self.old.report < 2 ^ 126 }
-        ensures did { (hosts : Hosts) → ⟦<Shelf as Lent>⟧.answers hosts self.old.live.shelf → ⟦<Live as Running>⟧.sound hosts self.old.live →
-            OnOk result (DidItem (environment hosts (⟦<Live as Running>⟧.slacks self.old.live)) (⟦<Live as Running>⟧.machine self.old.live) (⟦<Live as Running>⟧.machine self.new.live)
-            (item.Do (command.Named verb.Get name)) self.old.report self.new.report self.old.out.items self.new.out.items
-            × ⟦<Live as Running>⟧.sound hosts self.new.live × ⟦<Shelf as Lent>⟧.answers hosts self.new.live.shelf) }
-        ensures kept { OnOk result (⟦<Live as Running>⟧.kept self.new.live) }
-        ensures counted { OnOk result (self.new.live.broken ≡ false → ⟦<Shelf as Lent>⟧.counted self.new.live.shelf) }
-        ensures slacks { OnOk result (⟦<Live as Running>⟧.slacks self.new.live ≡ ⟦<Live as Running>⟧.slacks self.old.live) }
-        ensures done { OnOk result (self.new.live.done ≡ self.old.live.done + 1) }
-        ensures little { OnOk result (counted self.new.report ≤ counted self.old.report + (1 + 2 ^ 64)) }
-    {
-        if !self.report.is_untraced() {
-            let verb = Verb::Get;
-            return self.do_item(Item::Do(Command::Named { verb, name }));
-        }
-        let told = self.live.get(name)?;
-        self.report
-            .take_entries(&mut self.out, slice::from_ref(&told))?;
-        Ok(())
-    }
-
-    // Does what scripts say most, with the clauses of an item.
+    // Does what scripts say most, with the clauses of an item. Where the report takes in nothing of an item but what it tells, no item is made of it, and no list
+    // of the one entry of a `get`.
     fn do_brief(&mut self, brief: Brief) -> Result<(), NoMemory>
         requires kept { ⟦<Live as Running>⟧.kept self.old.live }
         requires meant { self.old.live.broken ≡ false → SomeHosts (λ hosts. ⟦<Shelf as Lent>⟧.answers hosts self.old.live.shelf × ⟦<Live as Running>⟧.sound hosts self.old.live) }
@@ -143,9 +114,21 @@ impl ScriptRun {
         ensures done { OnOk result (self.new.live.done ≡ self.old.live.done + 1) }
         ensures little { OnOk result (counted self.new.report ≤ counted self.old.report + (1 + 2 ^ 64)) }
     {
+        if !self.report.is_untraced() {
+            return self.do_item(brief.item());
+        }
         match brief {
-            Brief::Get(name) => self.do_get(name),
-            Brief::Set(name, value) => self.do_item(Item::Do(Command::Set { name, value })),
+            Brief::Get(name) => {
+                let told = self.live.get(name)?;
+                self.report
+                    .take_entries(&mut self.out, slice::from_ref(&told))?;
+                Ok(())
+            }
+            Brief::Set(name, value) => {
+                let told = self.live.set(name, value)?;
+                self.report.take_entries(&mut self.out, &told)?;
+                Ok(())
+            }
         }
     }
 
