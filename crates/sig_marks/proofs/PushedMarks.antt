@@ -5,7 +5,7 @@ use Rattle.std.specs.List.{All}
 use Rattle.std.proofs.lemmas.Bool.{eqb-true, eq-eqb}
 use Rattle.std.proofs.lemmas.Bool.Decides.{nat_tests}
 use Rattle.signal_model.specs.Signals.{is_in}
-use Rattle.sig_marks.specs.Tables.{AreFresh, Reached, Spreads, dependants_at, first, marked_at, next}
+use Rattle.sig_marks.specs.Tables.{AreFresh, AreListed, Reached, Spreads, dependants_at, first, marked_at, next}
 use Rattle.sig_store.specs.Stored.{entry}
 use Rattle.sig_marks.specs.Sets.{mark_in, marks_of, newly_marked, standing_count, stands_of, unmarked_count, with_marks}
 use Rattle.sig_marks.proofs.LinkedSets.{stands_same}
@@ -324,6 +324,18 @@ listed_on deps t0 n u fs ys i l all on = λ m q. elim (either (is_in m fs) (is_i
       let k : i + 1 ≤ length fs = omega (arith, l) in
       on.stack m (ap (is_in m) (more_behind fs ys (i + 1) k) ∙ is_in_append m (drop (i + 1) fs) ys ∙ or_right (is_in m (drop (i + 1) fs)) (is_in m ys) new)
 ]
+
+-- with what several more mark newly, all that was marked newly is listed
+pub all_listed : (ds : List ℕ) (t0 t : List Bool) (fs : List ℕ) → AreListed t0 t fs → AreListed t0 (with_marks ds t) (fs ++ newly_marked ds t)
+all_listed ds t0 t fs old = λ m off on.
+    let there : (is_in m fs ≡ true) ⊎ (is_in m (newly_marked ds t) ≡ true) = elim (tested (marked_at t m)) [
+      | inl was ↦ inl (old m off was)
+      | inr new ↦ elim (marked_only ds t m on) [ inl was ↦ cc (sym was ∙ new) | inr one ↦ inr (pushed_all ds t m one new) ]
+    ] in
+    is_in_append m fs (newly_marked ds t) ∙ elim there [
+      | inl a ↦ or_left (is_in m fs) (is_in m (newly_marked ds t)) a
+      | inr b ↦ or_right (is_in m fs) (is_in m (newly_marked ds t)) b
+    ]
 
 -- past the end of the list nothing is left
 pub none_behind : (fs : List ℕ) (i : ℕ) → length fs ≤ i → drop i fs ≡ []

@@ -73,6 +73,10 @@ pub record Spreads (dss : List (List ℕ)) (t u : List Bool) (n : ℕ) : Type 0 
 abbrev pub AreFresh : List (List ℕ) → List Bool → ℕ → List ℕ → Type 0
 AreFresh dss t n fresh = (m : ℕ) → is_in m fresh ≡ true → Reached dss t n m
 
+-- each that is marked newly is among these
+abbrev pub AreListed : List Bool → List Bool → List ℕ → Type 0
+AreListed t u fresh = (m : ℕ) → marked_at t m ≡ false → marked_at u m ≡ true → is_in m fresh ≡ true
+
 -- n is marked, and then its dependants are; where n was marked already nothing changes
 abbrev pub Pushes : List (List ℕ) → List Bool → List Bool → ℕ → Type 0
 Pushes dss t u n = ((marked_at t n ≡ true) × (u ≡ t)) ⊎ Spreads dss (slice_set t n true) u n

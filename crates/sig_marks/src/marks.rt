@@ -2,7 +2,7 @@
 ghost use Rattle.std.specs.Prelude.{◌≡◌, ◌+◌, ◌<◌, ◌^◌, [], length, true, false, vec_capacity, slice_get, slice_set, IfSome, OnOk, OnErr};
 ghost use Rattle.std.specs.List.{All};
 ghost use Rattle.signal_model.specs.Laws.{AreDistinct};
-ghost use Rattle.sig_marks.specs.Tables.{dependants_at, marked_at, with_mark, with_place, without_mark, AreFresh, Drops, Pushes, Relinks, Spreads};
+ghost use Rattle.sig_marks.specs.Tables.{dependants_at, marked_at, with_mark, with_place, without_mark, AreFresh, AreListed, Drops, Pushes, Relinks, Spreads};
 
 use crate::links::{drop_links, reader_at, relink};
 use crate::propagation::{drop_mark, is_marked_in, mark_one, spread, unmark_one};
@@ -120,6 +120,7 @@ impl Marks {
         ensures dependants { self.new.dependants ≡ self.old.dependants }
         ensures stands { self.new.stands ≡ self.old.stands }
         ensures fresh { AreFresh self.old.dependants self.old.marked id self.new.fresh }
+        ensures listed { AreListed self.old.marked self.new.marked self.new.fresh }
     {
         let _count = self.marked.made();
         spread(

@@ -2,7 +2,7 @@
 ghost use Rattle.std.specs.Prelude.{◌≡◌, ℕ, ◌+◌, ◌<◌, ◌≤◌, [], ◌∷◌, ◌++◌, length, true, false, is_some, if◌then◌else◌, vec_len, vec_capacity, slice_set};
 ghost use Rattle.std.specs.List.{All};
 ghost use Rattle.sig_store.specs.Stored.{entry};
-ghost use Rattle.sig_marks.specs.Tables.{AreFresh, Spreads, dependants_at, marked_at};
+ghost use Rattle.sig_marks.specs.Tables.{AreFresh, AreListed, Spreads, dependants_at, marked_at};
 ghost use Rattle.sig_marks.specs.Sets.{depends_in, keys_of, marks_of, newly_marked, standing_count, stands_of, unmarked_count, with_marks};
 
 use crate::presence::stands_in;
@@ -145,6 +145,7 @@ pub(crate) fn spread(
     ensures marked { Spreads (keys_of sets.now.entries) (marks_of marked.old.entries) (marks_of marked.new.entries) id }
     ensures stands { stands_of marked.new.entries ≡ stands_of marked.old.entries }
     ensures fresh { AreFresh (keys_of sets.now.entries) (marks_of marked.old.entries) id fresh.new.items }
+    ensures listed { AreListed (marks_of marked.old.entries) (marks_of marked.new.entries) fresh.new.items }
     ensures capacity { vec_capacity fresh.old ≤ vec_capacity fresh.new }
 {
     fresh.clear();

@@ -1,7 +1,7 @@
 use Rattle.std.proofs.Common.{◌<◌, ◌+◌, [], ◌++◌, drop, length, sym, ap, ◌∙◌, subst, arith}
-use Rattle.sig_marks.specs.Tables.{AreFresh, dependants_at}
+use Rattle.sig_marks.specs.Tables.{AreFresh, AreListed, dependants_at}
 use Rattle.sig_marks.specs.Sets.{keys_of, marks_of, newly_marked}
-use Rattle.sig_marks.proofs.PushedMarks.{marks_len, unmarked_few, begun, went_on, listed_on, none_behind, ended, Spreading}
+use Rattle.sig_marks.proofs.PushedMarks.{marks_len, unmarked_few, begun, went_on, all_listed, listed_on, none_behind, ended, Spreading}
 use Rattle.sig_marks.proofs.propagation.spread.Goals as goal
 
 pub mark_dependants-requires-clause-room : goal.mark_dependants-requires-clause-room
@@ -19,13 +19,18 @@ loop-place-init c =
     let t0 = marks_of ms in
     let e = c.mark_dependants.ensures in
     let start = begun deps t0 c.args.id (λ p m on. subst (λ z. m < z) (sym (marks_len ms)) (c.requires.within p m on)) in
-    let listed = subst (λ s. Spreading deps t0 c.args.id (marks_of c.mark_dependants.new.marked.entries) s) (sym (e.fresh ∙ ap (λ ys. ys ++ newly_marked (dependants_at deps c.args.id) t0) c.clear.ensures.items))
-    (subst (λ u. Spreading deps t0 c.args.id u ([] ++ newly_marked (dependants_at deps c.args.id) t0)) (sym e.marked) start) in
+    let t = marks_of c.mark_dependants.new.marked.entries in
+    let new = newly_marked (dependants_at deps c.args.id) t0 in
+    let items = e.fresh ∙ ap (λ ys. ys ++ new) c.clear.ensures.items in
+    let all = subst (λ s. AreListed t0 t s) (sym items) (subst (λ u. AreListed t0 u ([] ++ new)) (sym e.marked) (all_listed (dependants_at deps c.args.id) t0 t0 [] (λ m off on. cc (sym on ∙ off)))) in
+    let pushing = subst (λ s. Spreading deps t0 c.args.id t s) (sym items)
+    (subst (λ u. Spreading deps t0 c.args.id u ([] ++ new)) (sym e.marked) start) in
     let cap = e.capacity in
     let cap0 = c.clear.ensures.capacity in
     record {
-      pushing = listed;
-      fresh = listed.stack;
+      pushing = pushing;
+      fresh = pushing.stack;
+      listed = all;
       stands = e.stands;
       room = e.room;
       capacity = omega (arith, cap, cap0);
@@ -53,6 +58,8 @@ loop-place-preserved c =
       pushing = pushing;
       fresh = subst (λ s. AreFresh deps t0 c.args.id s) (sym e.fresh)
           (listed_on deps t0 c.args.id after fs (newly_marked (dependants_at deps x) t) i l c.loop-place.invariant.fresh (subst (λ s. Spreading deps t0 c.args.id after (drop (i + 1) s)) e.fresh pushing));
+      listed = subst (λ s. AreListed t0 after s) (sym e.fresh)
+          (subst (λ u. AreListed t0 u (fs ++ newly_marked (dependants_at deps x) t)) (sym e.marked) (all_listed (dependants_at deps x) t0 t fs c.loop-place.invariant.listed));
       stands = e.stands ∙ c.loop-place.invariant.stands;
       room = e.room;
       capacity = omega (arith, cap, cap0);
