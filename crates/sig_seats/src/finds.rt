@@ -1,5 +1,5 @@
 // What searches have found, by seat.
-ghost use Rattle.std.specs.Prelude.{◌≡◌, ℕ, ◌≤◌, ◌⊎◌, true, vec_capacity, IfOk};
+ghost use Rattle.std.specs.Prelude.{◌≡◌, ◌≢◌, ℕ, ◌<◌, ◌≤◌, ◌⊎◌, true, false, length, vec_capacity, IfOk};
 ghost use Rattle.sig_seats.specs.Found.{found_at};
 
 use crate::reached::push_in;
@@ -29,6 +29,7 @@ impl Model for Finds {
 fn lengthen(at: &mut Vec<u128>, seat: usize)
     requires { MOST_NODES ≤ vec_capacity at.old }
     ensures found { (s : ℕ) → found_at at.new.items s ≡ found_at at.old.items s }
+    ensures place { seat < MOST_NODES → seat < length at.new.items }
     ensures room { vec_capacity at.old ≤ vec_capacity at.new }
 {
     if seat >= MOST_NODES {
@@ -43,6 +44,7 @@ fn lengthen(at: &mut Vec<u128>, seat: usize)
 fn note_later(at: &mut Vec<u128>, worn: u128, seat: usize)
     requires { MOST_NODES ≤ vec_capacity at.old }
     ensures noted { (s : ℕ) → (found_at at.new.items s ≡ found_at at.old.items s) ⊎ ((s ≡ seat) × (found_at at.new.items s ≡ worn)) }
+    ensures here { seat < MOST_NODES → found_at at.new.items seat ≡ worn }
     ensures room { vec_capacity at.old ≤ vec_capacity at.new }
 {
     lengthen(at, seat);
@@ -60,16 +62,18 @@ impl Finds {
         Ok(Finds { at })
     }
 
-    /// Whether a search has found it at this count of changes.
+    /// Whether a search has found it at this count of changes, which isn't 0.
     pub fn is_found(&self, worn: u128, seat: usize) -> bool
-        ensures { result ≡ true → found_at self.now seat ≡ worn }
+        ensures found { result ≡ true → found_at self.now seat ≡ worn }
+        ensures none { result ≡ false → 0 < worn → found_at self.now seat ≢ worn }
     {
         seat < self.at.len() && self.at[seat] == worn
     }
 
     /// A search has found it.
     pub fn note(&mut self, worn: u128, seat: usize)
-        ensures { (s : ℕ) → (found_at self.new s ≡ found_at self.old s) ⊎ ((s ≡ seat) × (found_at self.new s ≡ worn)) }
+        ensures here { seat < MOST_NODES → found_at self.new seat ≡ worn }
+        ensures others { (s : ℕ) → (found_at self.new s ≡ found_at self.old s) ⊎ ((s ≡ seat) × (found_at self.new s ≡ worn)) }
     {
         if seat < self.at.len() {
             self.at[seat] = worn;
