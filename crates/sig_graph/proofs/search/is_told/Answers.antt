@@ -9,7 +9,7 @@ pub returns-then-is_found-clause-due : goal.returns-then-is_found-clause-due
 returns-then-is_found-clause-due c = λ told n got.
     let xs = c.args.nodes.now.items in
     c.requires.kept.due n (ap is_computed_body (body_got xs n c.args.node.now got) ∙ c.requires.live)
-    (ap (found_at c.args.finds.now) (seat_got xs n c.args.node.now got) ∙ c.is_found.ensures c.if-is_found.true)
+    (ap (found_at c.args.finds.now) (seat_got xs n c.args.node.now got) ∙ c.is_found.ensures.found c.if-is_found.true)
 
 pub returns-else-is_found-clause-due : goal.returns-else-is_found-clause-due
 returns-else-is_found-clause-due c = λ told n got. inl (due_got c.args.nodes.now.items c.args.generation n c.args.node.now got ∙ sym c.is_node_due.ensures ∙ told)

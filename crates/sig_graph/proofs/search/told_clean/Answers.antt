@@ -9,7 +9,7 @@ pub returns-then-is_found-clause-clean : goal.returns-then-is_found-clause-clean
 returns-then-is_found-clause-clean c =
     let xs = c.args.nodes.now.items in
     due_unclean xs c.args.generation c.args.id c.requires.live
-    (c.requires.kept.due c.args.id c.requires.live (ap (found_at c.args.finds.now) (seat_got xs c.args.id c.in-Some.node.now c.in-Some.ensures.some) ∙ c.is_found.ensures c.if-is_found.true))
+    (c.requires.kept.due c.args.id c.requires.live (ap (found_at c.args.finds.now) (seat_got xs c.args.id c.in-Some.node.now c.in-Some.ensures.some) ∙ c.is_found.ensures.found c.if-is_found.true))
 
 pub returns-then-not-is_marked-clause-clean : goal.returns-then-not-is_marked-clause-clean
 returns-then-not-is_marked-clause-clean c =
