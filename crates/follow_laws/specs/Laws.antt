@@ -3,7 +3,7 @@ use Rattle.std.specs.Prelude.{◌≡◌, ℕ, false, List, []}
 use Rattle.std.specs.List.{AllByRecursion}
 use Rattle.sig_host.specs.Loans.{LendsRows}
 use Rattle.effect_model.specs.Worlds.{Environment}
-use Rattle.live_cmd.specs.Items.{ItemsFrom}
+use Rattle.script_items.specs.Items.{ItemsFrom}
 use Rattle.live_cmd.specs.declared.command.Item.{Item}
 use Rattle.live_entries.specs.Printed.{IsSizedEntry}
 use Rattle.live_model.specs.Machine.{empty}

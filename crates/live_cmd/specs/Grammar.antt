@@ -1,5 +1,5 @@
 -- The lines of the language: which bytes write each, and what it gives.
-use Rattle.std.specs.Prelude.{ℕ, Bool, ◌&&◌, not, List, [], ◌∷◌, codes, Some, None}
+use Rattle.std.specs.Prelude.{ℕ, Bool, ◌&&◌, not, List, [], ◌∷◌, codes, Some, None, true, false}
 use Rattle.std.specs.List.{list_all}
 use Rattle.std.specs.Str.{bytes_eq}
 use Rattle.sig_words.specs.Lexemes.{symbol, word}
@@ -235,3 +235,14 @@ said_line x = grammar.meaning_of commands x
 -- bytes write a line: their tokens spell it
 abbrev pub Writes : Said → List ℕ → Type 0
 Writes said bytes = blocks.Writes commands said bytes
+
+-- whether a line that gives this is a command by itself: what begins a block or ends it isn't, nor is what names fields that no list can have
+abbrev pub gives_command : Line → Bool
+gives_command (line.Alone (command.List n fs o)) = are_fields fs
+gives_command (line.Alone (command.Edit n (edit.Put k f v))) = is_field f
+gives_command (line.Alone c) = true
+gives_command _ = false
+
+-- so it is with a line that says this
+abbrev pub is_alone : Said → Bool
+is_alone x = gives_command (said_line x)

@@ -1,9 +1,5 @@
-pub mod Blocks
-pub mod Briefs
 pub mod Codes
+pub mod Words
 pub mod Grammar
-pub mod Items
-pub mod Known
 pub mod Refusals
 pub mod Views
-pub mod Words

@@ -1,20 +1,13 @@
 -- What the program holds of lines that it read.
-use Rattle.std.specs.Prelude.{◌≡◌, ◌⊎◌, ◌==◌, if◌then◌else◌, ℕ, Bool, true, false, List, [], ◌∷◌, Option, Some, None, Result, Ok, Err, IsTrue}
+use Rattle.std.specs.Prelude.{List, Option, Result}
 use Rattle.sig_words.specs.Lexemes.{Lexeme}
 use Rattle.formula_text.specs.declared.wired.FormulaFault.{FormulaFault}
 use Rattle.line_forms.specs.Findings as findings
 use Rattle.line_forms.specs.Told.{unless_faulty}
-use Rattle.script_lines.specs.Lines.{NumberedLine}
-use Rattle.live_entries.specs.declared.refusal.Refusal.TheVariants as refusal
-use Rattle.live_cmd.specs.Grammar.{Row, commands, Said, Writes, said_line}
-use Rattle.live_cmd.specs.Refusals.{fault_of, refused_for}
-use Rattle.live_cmd.specs.Items.{command_of, has_many_fields, is_alone, item_of, item_or, IsNoCommand}
-use Rattle.live_cmd.specs.declared.command.Item.{Item}
-use Rattle.live_cmd.specs.declared.command.Item.TheVariants as item
+use Rattle.live_cmd.specs.Grammar.{Row, commands, Said, said_line, is_alone}
+use Rattle.live_cmd.specs.Refusals.{fault_of}
 use Rattle.live_cmd.specs.declared.line.Line.{Line}
 use Rattle.live_cmd.specs.declared.line.Line.TheVariants as line
-use Rattle.live_cmd.specs.declared.contents.Head.{Head}
-use Rattle.live_cmd.specs.declared.contents.Head.TheVariants as heads
 use Rattle.live_cmd.specs.declared.line.Found.{Found}
 
 -- what a line gives, or what is wrong with it
@@ -25,33 +18,6 @@ line_or_fault x = unless_faulty (fault_of x) (said_line x)
 abbrev pub found_of : Said → Found
 found_of x = record { alone = is_alone x; line = line_or_fault x }
 
--- the first line of a block, where a line is one
-abbrev pub head_of : Line → Option Head
-head_of (line.Effect n o) = Some (heads.Effect n o)
-head_of (line.On t k e) = Some (heads.On t k e)
-head_of (line.Template n) = Some (heads.Template n)
-head_of _ = None
-
--- so it is with a line that was read
-abbrev pub head_told : Result Line FormulaFault → Option Head
-head_told (Ok l) = head_of l
-head_told (Err f) = None
-
--- whether a line is an `end`
-abbrev pub is_end : Line → Bool
-is_end line.End = true
-is_end _ = false
-
--- so it is with a line that was read
-abbrev pub end_told : Result Line FormulaFault → Bool
-end_told (Ok l) = is_end l
-end_told (Err f) = false
-
--- the number of the line that has this number; 0 where none has
-abbrev pub number_in : List NumberedLine → ℕ → ℕ
-number_in [] k = 0
-number_in (l ∷ ls) k = if l.0 == k then l.0 else number_in ls k
-
 -- what is found in the tokens behind the first word, as a line of this row
 abbrev pub found_as : Row → List Lexeme → Option Found
 found_as r ls = findings.found_as commands found_of r ls
@@ -59,18 +25,3 @@ found_as r ls = findings.found_as commands found_of r ls
 -- what is found by the first of the rows that reads them
 abbrev pub found_first : List Row → List Lexeme → Option Found
 found_first rs ls = findings.found_first commands found_of rs ls
-
--- whether a line that was read makes a list of too many fields
-abbrev pub many_told : Result Line FormulaFault → Bool
-many_told (Ok (line.Alone c)) = has_many_fields c
-many_told _ = false
-
--- what a line of this number is that was read
-abbrev pub item_read : ℕ → Result Line FormulaFault → Item
-item_read k (Ok l) = item_or k (command_of l)
-item_read k (Err f) = item.Refused (refused_for k f)
-
--- a line that begins no block is what it says, or refused where it says nothing that is a command by itself
-abbrev pub IsPlain : NumberedLine → Item → Type 0
-IsPlain l i =
-    ((x : Said) × Writes x l.1 × IsTrue (is_alone x) × (i ≡ item_of l.0 x)) ⊎ (IsNoCommand l.1 × (i ≡ item.Refused (refusal.Syntax l.0)))

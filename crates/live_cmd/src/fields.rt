@@ -2,11 +2,9 @@
 ghost use Rattle.std.specs.Prelude.{◌≡◌};
 ghost use Rattle.std.specs.List.{list_all};
 ghost use Rattle.live_cmd.specs.Grammar.{are_fields, is_field};
-ghost use Rattle.live_cmd.specs.Items.{has_many_fields};
 
-use crate::Command;
 use line_forms::are_distinct;
-use sig_base::{MOST_FIELDS, Name};
+use sig_base::Name;
 
 /// Whether a name can be that of a field: the key has another place.
 pub fn is_field(name: &Name) -> bool
@@ -27,14 +25,4 @@ pub fn are_fields(names: &[Name]) -> bool
     ensures { result ≡ are_fields names.now }
 {
     each_is_field(names) && are_distinct(names)
-}
-
-/// Whether a command makes a list of more than `MOST_FIELDS` fields.
-pub fn has_many_fields(command: &Command) -> bool
-    ensures { result ≡ has_many_fields command.now }
-{
-    match command {
-        Command::List { fields, .. } => MOST_FIELDS < fields.as_slice().len(),
-        _ => false,
-    }
 }

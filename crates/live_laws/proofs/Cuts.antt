@@ -6,7 +6,7 @@ use Rattle.effect_model.specs.Worlds.{Environment}
 use Rattle.script_lines.specs.Lines.{EndsLine, kept_lines}
 use Rattle.script_lines.specs.Pieces.{outside, place_after}
 use Rattle.live_cmd.specs.declared.command.Item.{Item}
-use Rattle.live_cmd.specs.Items.{ItemsFrom}
+use Rattle.script_items.specs.Items.{ItemsFrom}
 use Rattle.live_entries.specs.declared.entry.Entry.{Entry}
 use Rattle.live_entries.specs.Printed.{printed}
 use Rattle.live_words.specs.declared.jobs.ScriptJob.TheVariants as job
@@ -15,7 +15,7 @@ use Rattle.live_model.specs.Output.{entries_from, machine_after}
 use Rattle.live_laws.specs.Cuts.{EntriesLaw, IsWhole, ItemsLaw, OutputLaw, PartsLaw, next_number}
 use Rattle.live_laws.proofs.Ends.{whole_closed}
 
--- how `items_cut` and `one_list` of `live_cmd` are had
+-- how `items_cut` and `one_list` of `script_items` are had
 abbrev pub ItemsCut : Type 0
 ItemsCut = (n : ℕ) (x y : List ℕ) (is js : List Item) → EndsLine x → place_after outside (kept_lines n x) ≡ outside
     → ItemsFrom n x is → ItemsFrom (next_number n x) y js → ItemsFrom n (x ++ y) (is ++ js)

@@ -5,7 +5,7 @@ use Rattle.effect_model.specs.Worlds.{Environment}
 use Rattle.script_lines.specs.Lines.{EndsLine, kept_lines, lines}
 use Rattle.script_lines.specs.Pieces.{Piece, outside, pieces_of, place_after}
 use Rattle.live_cmd.specs.declared.command.Item.{Item}
-use Rattle.live_cmd.specs.Items.{ItemsFrom}
+use Rattle.script_items.specs.Items.{ItemsFrom}
 use Rattle.live_words.specs.declared.jobs.ScriptJob.{ScriptJob}
 use Rattle.live_report.specs.Reports.{output_of}
 use Rattle.live_model.specs.Machine.{Machine}

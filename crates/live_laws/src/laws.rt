@@ -6,7 +6,7 @@ ghost use Rattle.live_laws.specs.Firing.{FireLaw};
 ghost use Rattle.live_laws.specs.Refusals.{ChangeLaw, RefusedFlushLaw, RefusedLaw};
 ghost use Rattle.live_words.specs.declared.jobs.ScriptJob.TheVariants as job;
 
-use live_cmd::{items_cut, one_list};
+use script_items::{items_cut, one_list};
 use why_laws::laws::{beginning_law, journal_law};
 
 /// Each item of a script does commands of the world, one after the other, and its entries tell what happens in them, in order, with

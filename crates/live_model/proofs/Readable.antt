@@ -20,13 +20,13 @@ use Rattle.tpl_syntax.specs.Templates as templates
 use Rattle.live_cmd.specs.declared.command.Command.{Command}
 use Rattle.live_cmd.specs.declared.command.Item.{Item}
 use Rattle.live_cmd.specs.declared.command.Item.TheVariants as item
-use Rattle.live_cmd.specs.declared.contents.Content.{Content}
-use Rattle.live_cmd.specs.declared.contents.Content.TheVariants as content
+use Rattle.script_items.specs.declared.contents.Content.{Content}
+use Rattle.script_items.specs.declared.contents.Content.TheVariants as content
 use Rattle.live_cmd.specs.declared.line.Line.{Line}
 use Rattle.live_cmd.specs.declared.line.Line.TheVariants as line
-use Rattle.live_cmd.specs.Blocks.{block_item, body_content, body_refused, effect_of, handler_of, template_content, template_refused, IsContentOf}
-use Rattle.live_cmd.specs.Grammar.{Row, row, said_line, list, computed_host, rewire_host, effect, on, template, close}
-use Rattle.live_cmd.specs.Items.{command_of, first_line, has_many_fields, is_alone, item_or, IsItem, long, unended, block, faulty, says}
+use Rattle.script_items.specs.Blocks.{block_item, body_content, body_refused, effect_of, handler_of, template_content, template_refused, IsContentOf}
+use Rattle.live_cmd.specs.Grammar.{Row, row, said_line, list, computed_host, rewire_host, effect, on, template, close, is_alone}
+use Rattle.script_items.specs.Items.{command_of, first_line, has_many_fields, item_or, IsItem, long, unended, block, faulty, says}
 use Rattle.live_cmd.specs.Refusals.{fault_of, refused_for}
 use Rattle.live_entries.specs.declared.refusal.Refusal.{Refusal}
 use Rattle.live_model.specs.Scripts.{IsReadable, IsReadItem}

@@ -15,8 +15,8 @@ use Rattle.live_cmd.specs.declared.command.Item.{Item}
 use Rattle.live_entries.specs.declared.entry.Entry.{Entry}
 use Rattle.live_entries.specs.Printed.{IsSizedEntry}
 use Rattle.signal_laws.proofs.Shared.{all_append}
-use Rattle.live_cmd.specs.Items.{AreItems, IsItem, ItemsFrom}
-use Rattle.live_cmd.proofs.Shared.{some_items}
+use Rattle.script_items.specs.Items.{AreItems, IsItem, ItemsFrom}
+use Rattle.script_items.proofs.Shared.{some_items}
 use Rattle.live_words.specs.declared.jobs.Job.{Job}
 use Rattle.live_words.specs.declared.jobs.Job.TheVariants as asked
 use Rattle.live_words.specs.declared.jobs.ScriptJob.{ScriptJob}

@@ -8,7 +8,7 @@ use Rattle.live_words.specs.declared.jobs.Job.{Job}
 use Rattle.live_words.specs.declared.jobs.Job.TheVariants as job
 use Rattle.live_words.specs.declared.jobs.ScriptJob.{ScriptJob}
 use Rattle.live_cmd.specs.declared.command.Item.{Item}
-use Rattle.live_cmd.specs.Items.{ItemsFrom}
+use Rattle.script_items.specs.Items.{ItemsFrom}
 use Rattle.page_follow.specs.declared.input.TheConstants.{MOST_FRAMES}
 use Rattle.page_follow.specs.Following.{GaveTooMany, IsFollowed, IsFollowedInPart, IsFollowedUpTo, NoFault}
 use Rattle.live_run.specs.declared.run.Status.{Status}

@@ -10,7 +10,7 @@ use Rattle.bench_workload.specs.Workload.{workload_text}
 use Rattle.live_words.specs.declared.jobs.ScriptJob.{ScriptJob}
 use Rattle.live_words.specs.declared.jobs.ScriptJob.TheVariants as job
 use Rattle.live_cmd.specs.declared.command.Item.{Item}
-use Rattle.live_cmd.specs.Items.{Begins}
+use Rattle.script_items.specs.Items.{Begins}
 use Rattle.live_entries.specs.declared.entry.Entry.{Entry}
 use Rattle.live_entries.specs.Printed.{IsSizedEntry}
 use Rattle.live_report.specs.declared.report.Report.{Report}

@@ -13,10 +13,10 @@ use Rattle.script_lines.proofs.Shared.{line_alone, block_begins, block_goes_on, 
 use Rattle.live_cmd.specs.declared.command.Command.{Command}
 use Rattle.live_cmd.specs.declared.command.Command.TheVariants as command
 use Rattle.live_cmd.specs.declared.command.Item.TheVariants as item
-use Rattle.live_cmd.specs.Blocks.{is_head}
+use Rattle.script_items.specs.Blocks.{is_head}
 use Rattle.live_cmd.specs.Grammar.{Row, row, commands, effect, on, template, close}
-use Rattle.live_cmd.specs.Items.{IsItem, any_long, Begins}
-use Rattle.live_cmd.proofs.Shared.{begins_none}
+use Rattle.script_items.specs.Items.{IsItem, any_long, Begins}
+use Rattle.script_items.proofs.Shared.{begins_none}
 use Rattle.live_writing.specs.Printer.{said_by, bytes_of, ended_line, command_text, lines_by, lines_of_command}
 use Rattle.live_writing.proofs.Levels.{Stays}
 use Rattle.live_writing.proofs.Numbered.{numbered-append, numbered_one}

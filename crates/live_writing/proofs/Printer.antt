@@ -31,18 +31,18 @@ use Rattle.tpl_syntax.specs.Printer as template_text
 use Rattle.tpl_syntax.proofs.Shared as template_laws
 use Rattle.live_entries.specs.declared.refusal.LimitWord.TheVariants as limit
 use Rattle.live_entries.specs.declared.refusal.Refusal.TheVariants as refusal
-use Rattle.live_cmd.specs.declared.contents.Content.{Content}
-use Rattle.live_cmd.specs.declared.contents.Content.TheVariants as content
+use Rattle.script_items.specs.declared.contents.Content.{Content}
+use Rattle.script_items.specs.declared.contents.Content.TheVariants as content
 use Rattle.live_cmd.specs.declared.command.Command.{Command}
 use Rattle.live_cmd.specs.declared.command.Command.TheVariants as command
 use Rattle.live_cmd.specs.declared.command.Item.{Item}
 use Rattle.live_cmd.specs.declared.command.Item.TheVariants as item
 use Rattle.live_cmd.specs.declared.line.Line.{Line}
 use Rattle.live_cmd.specs.declared.line.Line.TheVariants as line
-use Rattle.live_cmd.specs.Grammar.{Row, row, commands, Said, Writes, said_line, computed, rewire, effect, on, template, close}
+use Rattle.live_cmd.specs.Grammar.{Row, row, commands, Said, Writes, said_line, computed, rewire, effect, on, template, close, is_alone}
 use Rattle.live_cmd.specs.Refusals.{fault_of, refused_for}
-use Rattle.live_cmd.specs.Blocks.{Block, Ends, IsContent, IsContentOf, block_item, body_content, body_refused, effect_of, handler_of, is_head, template_content, template_refused}
-use Rattle.live_cmd.specs.Items.{IsItem, long, unended, block, faulty, says, any_long, command_of, first_line, has_many_fields, is_alone, item_of, item_or}
+use Rattle.script_items.specs.Blocks.{Block, Ends, IsContent, IsContentOf, block_item, body_content, body_refused, effect_of, handler_of, is_head, template_content, template_refused}
+use Rattle.script_items.specs.Items.{IsItem, long, unended, block, faulty, says, any_long, command_of, first_line, has_many_fields, item_of, item_or}
 use Rattle.live_writing.specs.Printer.{said_by, bytes_of, ended_line, command_text, lines_by, body_lines, template_lines, lines_of_command}
 use Rattle.live_writing.proofs.Levels.{Stays, body_stays, template_stays}
 use Rattle.live_writing.proofs.Numbered.{numbered-append, numbered_one}

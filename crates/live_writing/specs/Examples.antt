@@ -12,9 +12,9 @@ use Rattle.live_cmd.specs.declared.command.Verb.TheVariants as verbs
 use Rattle.live_cmd.specs.declared.command.Command.TheVariants as command
 use Rattle.live_cmd.specs.declared.command.Item.TheVariants as item
 use Rattle.live_cmd.specs.declared.line.Line.TheVariants as line
-use Rattle.live_cmd.specs.Blocks.{is_head}
-use Rattle.live_cmd.specs.Grammar.{Said, bare, commands, fire, on, said_line, verb}
-use Rattle.live_cmd.specs.Items.{is_alone, item_of}
+use Rattle.script_items.specs.Blocks.{is_head}
+use Rattle.live_cmd.specs.Grammar.{Said, bare, commands, fire, on, said_line, verb, is_alone}
+use Rattle.script_items.specs.Items.{item_of}
 use Rattle.live_writing.specs.Printer.{command_text}
 
 -- ---- `on counter 5 @click`

@@ -19,9 +19,7 @@ use Rattle.live_cmd.specs.declared.command.SourceText.TheVariants as source
 use Rattle.live_cmd.specs.declared.command.Try.{Try}
 use Rattle.live_cmd.specs.declared.command.Try.TheVariants as tried
 use Rattle.live_cmd.specs.declared.command.SourceText.{SourceText}
-use Rattle.live_cmd.specs.Grammar.{commands, Said, verb, bare, cell, set, list, insert_row, remove_row, move_row, put_field, computed, computed_host}
-use Rattle.live_cmd.specs.Grammar.{rewire, rewire_host, owner, watcher, tries_get, tries_set, tries_watch, tries_unwatch, watch, unwatch, mount}
-use Rattle.live_cmd.specs.Grammar.{effect, on, fire, template, close}
+use Rattle.live_cmd.specs.Grammar.{commands, Said, verb, bare, cell, set, list, insert_row, remove_row, move_row, put_field, computed, computed_host, rewire, rewire_host, owner, watcher, tries_get, tries_set, tries_watch, tries_unwatch, watch, unwatch, mount, effect, on, fire, template, close}
 
 -- the formula with names in place of its slots
 abbrev pub draft_of : Wiring → Draft

@@ -3,7 +3,7 @@ ghost use Rattle.std.specs.Prelude.{◌≡◌, ◌+◌, ◌++◌, ℕ, List, fal
 ghost use Rattle.script_lines.specs.Pieces.{Piece};
 ghost use Rattle.live_cmd.specs.declared.command.Command.{Command};
 ghost use Rattle.live_cmd.specs.declared.command.Item.TheVariants as item;
-ghost use Rattle.live_cmd.specs.Items.{any_long, Begins, IsItem};
+ghost use Rattle.script_items.specs.Items.{any_long, Begins, IsItem};
 ghost use Rattle.live_writing.specs.Printer.{command_text, lines_by, lines_of_command};
 
 /// What `command_line` writes of a command that a script has is read back as the same command, wherever it stands, if none of its

@@ -6,7 +6,7 @@ use Rattle.sig_host.specs.Loans.{LendsRows}
 use Rattle.effect_model.specs.Batches.{Batch}
 use Rattle.effect_model.specs.Worlds.{Environment}
 use Rattle.script_lines.specs.Pieces.{Piece, pieces_of}
-use Rattle.live_cmd.specs.Items.{AreItems}
+use Rattle.script_items.specs.Items.{AreItems}
 use Rattle.live_cmd.specs.declared.command.Bare.TheVariants as bares
 use Rattle.live_cmd.specs.declared.command.Command.TheVariants as command
 use Rattle.live_cmd.specs.declared.command.Item.{Item}

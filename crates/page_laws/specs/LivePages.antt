@@ -12,7 +12,7 @@ use Rattle.page_model.specs.Replay as replay
 use Rattle.page_model.specs.Replay.{Op, replay}
 use Rattle.page_model.specs.Texts.{op_text}
 use Rattle.page_ops.specs.Ops.{HasText}
-use Rattle.live_cmd.specs.Items.{ItemsFrom}
+use Rattle.script_items.specs.Items.{ItemsFrom}
 use Rattle.live_cmd.specs.declared.command.Bare.TheVariants as bares
 use Rattle.live_cmd.specs.declared.command.Command.TheVariants as command
 use Rattle.live_cmd.specs.declared.command.Item.{Item}

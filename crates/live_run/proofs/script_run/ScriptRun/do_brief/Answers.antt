@@ -1,10 +1,10 @@
 use Rattle.std.proofs.Common.{List, ◌∷◌, [], ◌++◌, ℕ, ap, sym, ◌∙◌, subst, append_assoc}
-use Rattle.live_cmd.specs.Briefs.{brief_item}
+use Rattle.script_items.specs.Briefs.{brief_item}
 use Rattle.live_cmd.specs.declared.command.Command.TheVariants as command
 use Rattle.live_cmd.specs.declared.command.Item.TheVariants as item
 use Rattle.live_cmd.specs.declared.command.Verb.TheVariants as verb
-use Rattle.live_cmd.specs.declared.quick.Brief.{Brief}
-use Rattle.live_cmd.specs.declared.quick.Brief.TheVariants as brief
+use Rattle.script_items.specs.declared.quick.Brief.{Brief}
+use Rattle.script_items.specs.declared.quick.Brief.TheVariants as brief
 use Rattle.live_core.specs.Consistency.{IsReadItem}
 use Rattle.live_entries.specs.declared.entry.Entry.{Entry}
 use Rattle.live_report.specs.Reports.{still}

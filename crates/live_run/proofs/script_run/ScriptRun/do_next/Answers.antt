@@ -1,5 +1,5 @@
-use Rattle.live_cmd.specs.Briefs.{brief_item}
-use Rattle.live_cmd.specs.Items.{Begins}
+use Rattle.script_items.specs.Briefs.{brief_item}
+use Rattle.script_items.specs.Items.{Begins}
 use Rattle.live_model.proofs.Shared.{item_read}
 use Rattle.live_run.proofs.script_run.ScriptRun.do_next.Goals as goal
 

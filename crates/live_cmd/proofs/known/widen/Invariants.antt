@@ -1,7 +1,0 @@
-use Rattle.std.proofs.Common.{◌≡◌, ◌++◌, None}
-use Rattle.std.specs.Prelude.{replicate}
-use Rattle.live_cmd.proofs.known.widen.Given as goal
-
--- so many more so far
-abbrev pub invariant-loop : goal.invariant-loop
-invariant-loop l = l.names.items ≡ l.fn.names.items ++ replicate l.counter None

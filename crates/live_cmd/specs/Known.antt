@@ -1,8 +1,0 @@
--- What a table of names knows.
-use Rattle.std.specs.Prelude.{◌≡◌, None}
-use Rattle.std.specs.List.{All}
-use Rattle.live_cmd.specs.declared.known.KnownNames.{KnownNames}
-
--- no name is known
-abbrev pub KnowsNone : KnownNames → Type 0
-KnowsNone k = All (λ n. n ≡ None) k.names.items

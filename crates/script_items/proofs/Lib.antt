@@ -1,0 +1,15 @@
+mod Ends
+mod FirstWords
+mod Lengths
+mod Naturals
+mod Numbers
+mod Blocks
+mod Totality
+mod Held
+mod Items
+mod Heads
+mod Commonest
+mod Briefs
+mod Plain
+mod TemplateNumbers
+pub mod Shared

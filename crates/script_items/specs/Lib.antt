@@ -1,0 +1,5 @@
+pub mod Blocks
+pub mod Items
+pub mod Known
+pub mod Views
+pub mod Briefs

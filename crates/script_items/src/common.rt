@@ -1,0 +1,110 @@
+// Reads the commonest lines, of which each part stands behind one blank, without cutting them into tokens.
+ghost use Rattle.std.specs.Prelude.{◌≡◌, ◌∷◌, ◌++◌, ℕ, codes, IfOk, IfSome};
+ghost use Rattle.std.specs.Fmt.{signed_decimal};
+ghost use Rattle.std.specs.Int.{w64};
+ghost use Rattle.std.specs.Int.RustNames.{FitsSigned};
+ghost use Rattle.script_items.specs.Views.{IsPlain};
+
+use crate::known::KnownNames;
+use line_forms::Unread;
+use live_cmd::{Bare, Command, Item, Verb};
+use sig_base::Scalar;
+use sig_words::integer;
+use std::alloc::Global;
+
+// `get N`, behind the word and a blank.
+fn get(alloc: Global, known: &mut KnownNames, text: &[u8]) -> Result<Item, Unread>
+    ensures { (k : ℕ) → IfOk result (λ i. IsPlain (k, codes "get " ++ text.now) i) }
+{
+    let name = known.name(alloc, text)?;
+    let verb = Verb::Get;
+    Ok(Item::Do(Command::Named { verb, name }))
+}
+
+/// What stands before the first of these bytes, and what behind it.
+pub(crate) fn parted(text: &[u8], byte: u8) -> Option<(&[u8], &[u8])>
+    ensures { IfSome result (λ p. text.now ≡ p.0.now ++ byte ∷ p.1.now) }
+{
+    let at = text.iter().position(|b| *b == byte)?;
+    let (front, rest) = text.split_at(at);
+    let (first, behind) = rest.split_first()?;
+    if *first != byte {
+        return None;
+    }
+    Some((front, behind))
+}
+
+/// The whole number that a text is.
+pub(crate) fn whole(text: &[u8]) -> Option<i64>
+    ensures { IfSome result (λ z. FitsSigned w64 z × (text.now ≡ signed_decimal z)) }
+{
+    let Some(value) = integer(text) else {
+        return None;
+    };
+    Some(value)
+}
+
+// `set N LIT` with a whole number, behind the word and a blank.
+fn set(alloc: Global, known: &mut KnownNames, text: &[u8]) -> Result<Item, Unread>
+    ensures { (k : ℕ) → IfOk result (λ i. IsPlain (k, codes "set " ++ text.now) i) }
+{
+    let Some((name, number)) = parted(text, b' ') else {
+        return Err(Unread::NotThere);
+    };
+    let Some(value) = whole(number) else {
+        return Err(Unread::NotThere);
+    };
+    let name = known.name(alloc, name)?;
+    let value = Scalar::Int(value);
+    Ok(Item::Do(Command::Set { name, value }))
+}
+
+// `flush`.
+fn flush() -> Result<Item, Unread>
+    ensures { (k : ℕ) → IfOk result (λ i. IsPlain (k, codes "flush") i) }
+{
+    let bare = Bare::Flush;
+    Ok(Item::Do(Command::Bare(bare)))
+}
+
+// What the commonest word alone is.
+fn word_alone(line: &[u8]) -> Result<Item, Unread>
+    ensures { (k : ℕ) → IfOk result (λ i. IsPlain (k, line.now) i) }
+{
+    if line == b"flush".as_slice() {
+        return flush();
+    }
+    Err(Unread::NotThere)
+}
+
+// What stands behind a byte with which bytes begin.
+fn behind(line: &[u8], byte: u8) -> Option<&[u8]>
+    ensures { IfSome result (λ rest. line.now ≡ byte ∷ rest.now) }
+{
+    let (first, rest) = line.split_first()?;
+    if *first == byte { Some(rest) } else { None }
+}
+
+/// What stands behind a word of three bytes and a blank.
+pub(crate) fn behind_word(line: &[u8], first: u8, second: u8, third: u8) -> Option<&[u8]>
+    ensures { IfSome result (λ rest. line.now ≡ first ∷ second ∷ third ∷ 32 ∷ rest.now) }
+{
+    let rest = behind(line, first)?;
+    let rest = behind(rest, second)?;
+    let rest = behind(rest, third)?;
+    let rest = behind(rest, b' ')?;
+    Some(rest)
+}
+
+/// What one of the commonest lines is; nothing of another, even where it says something.
+pub fn common_item(alloc: Global, known: &mut KnownNames, line: &[u8]) -> Result<Item, Unread>
+    ensures { (k : ℕ) → IfOk result (λ i. IsPlain (k, line.now) i) }
+{
+    if let Some(text) = behind_word(line, b'g', b'e', b't') {
+        return get(alloc, known, text);
+    }
+    if let Some(text) = behind_word(line, b's', b'e', b't') {
+        return set(alloc, known, text);
+    }
+    word_alone(line)
+}
