@@ -1,5 +1,5 @@
 // The frames of computeds that are being evaluated, and what one step of a frame comes to.
-ghost use Rattle.std.specs.Prelude.{◌≡◌, ◌<◌, ◌++◌, [], ◌∷◌, true, IfOk, OnOk, vec_capacity, vec_len};
+ghost use Rattle.std.specs.Prelude.{◌≡◌, ◌++◌, [], ◌∷◌, true, IfOk, OnOk};
 ghost use Rattle.sig_base.specs.declared.value.Outcome.TheVariants.{Good};
 ghost use Rattle.signal_model.specs.Signals.{standing};
 ghost use Rattle.signal_model.specs.Sound.{names_of};
@@ -85,17 +85,6 @@ pub(crate) enum Turn {
     Falls,
 }
 
-// Puts a slot behind the others that are known, in room that is there.
-fn push_known(known: &mut Vec<Known>, one: Known)
-    requires { vec_len known.old < vec_capacity known.old }
-    ensures { known.new.items ≡ known.old.items ++ one ∷ [] }
-{
-    match known.push(one) {
-        Ok(_) => {}
-        Err(_) => unreachable!(),
-    }
-}
-
 impl Learnt {
     /// Nothing.
     pub(crate) fn new(alloc: Global) -> Learnt {
@@ -126,7 +115,7 @@ impl Learnt {
     {
         self.known.reserve(1)?;
         self.reads.push(id)?;
-        push_known(&mut self.known, Known { slot, value });
+        self.known.push_reserved(Known { slot, value });
         Ok(())
     }
 

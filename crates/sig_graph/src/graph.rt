@@ -19,7 +19,7 @@ use sig_nodes::{
     Body, Computation, Node, Nodes, Recipe, host_at, is_computed, is_linkable_at, is_live_at,
     rewire_at, seat_at, set_value_at, sources_at,
 };
-use sig_seats::{Finds, Reached, Seats, Trail, push_in};
+use sig_seats::{Finds, Reached, Seats, Trail};
 use std::alloc::Global;
 use std::marker::Model;
 

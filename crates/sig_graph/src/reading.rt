@@ -19,7 +19,6 @@ use sig_base::{Known, NoMemory, NodeId, Outcome, Value};
 use sig_formula::{BinOp, Formula, Part, Told, decides, operate_numbers, part_told};
 use sig_marks::Marks;
 use sig_nodes::{Body, Computation, Nodes, body_at};
-use sig_seats::push_in;
 
 /// What one answer of a formula comes to.
 #[derive(Clone, Copy)]
@@ -75,8 +74,8 @@ fn learn(
 {
     known.reserve(1)?;
     reads.reserve(1)?;
-    push_in(known, Known { slot, value });
-    push_in(reads, id);
+    known.push_reserved(Known { slot, value });
+    reads.push_reserved(id);
     Ok(())
 }
 

@@ -76,10 +76,7 @@ fn mark_reader(marked: &mut Store<bool>, fresh: &mut Vec<u128>, reader: u128)
     if mark_one(marked, reader) {
         return;
     }
-    match fresh.push(reader) {
-        Ok(_) => {}
-        Err(_) => unreachable!(),
-    }
+    fresh.push_reserved(reader);
 }
 
 // The same for several. Its clauses are the same too, as what holds after one has to hold for the next.

@@ -2,7 +2,6 @@
 ghost use Rattle.std.specs.Prelude.{◌≡◌, ◌≢◌, ℕ, ◌<◌, ◌≤◌, ◌⊎◌, true, false, length, vec_capacity, IfOk};
 ghost use Rattle.sig_seats.specs.Found.{found_at};
 
-use crate::reached::push_in;
 use sig_base::{MOST_NODES, NoMemory};
 use std::alloc::Global;
 use std::marker::Model;
@@ -36,7 +35,7 @@ fn lengthen(at: &mut Vec<u128>, seat: usize)
         return;
     }
     while at.len() <= seat {
-        push_in(at, 0);
+        at.push_reserved(0);
     }
 }
 

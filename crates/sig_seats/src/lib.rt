@@ -7,6 +7,6 @@ mod seats;
 mod trail;
 
 pub use finds::Finds;
-pub use reached::{Reached, push_in};
+pub use reached::Reached;
 pub use seats::Seats;
 pub use trail::Trail;

@@ -1,5 +1,5 @@
 // The seats that a search has reached.
-ghost use Rattle.std.specs.Prelude.{◌≡◌, ℕ, ◌<◌, ◌≤◌, ◌&&◌, ◌++◌, ◌∷◌, not, [], length, true, false, vec_len, vec_capacity, slice_get, IfOk, IfSome};
+ghost use Rattle.std.specs.Prelude.{◌≡◌, ℕ, ◌<◌, ◌≤◌, ◌&&◌, ◌++◌, ◌∷◌, not, [], length, true, false, slice_get, IfOk, IfSome};
 ghost use Rattle.signal_model.specs.Signals.{is_in};
 ghost use Rattle.sig_seats.specs.Flags.{is_up};
 
@@ -24,19 +24,6 @@ impl Model for Reached {
     ghost view = { λ r. r.seats.items };
 
     ghost invariant = { λ r. AreReached r.flags.items r.seats.items (vec_capacity r.seats) };
-}
-
-/// Puts last, in room that is there.
-#[inline(always)]
-pub fn push_in<T: Drop>(all: &mut Vec<T>, one: T)
-    requires { vec_len all.old < vec_capacity all.old }
-    ensures items { all.new.items ≡ all.old.items ++ one ∷ [] }
-    ensures capacity { vec_capacity all.old ≤ vec_capacity all.new }
-{
-    match all.push(one) {
-        Ok(_) => {}
-        Err(_) => unreachable!(),
-    }
 }
 
 // Takes the flags of these seats down.
@@ -100,7 +87,7 @@ impl Reached {
     {
         let _count = self.flags.len();
         self.flags[seat] = true;
-        push_in(&mut self.seats, seat);
+        self.seats.push_reserved(seat);
     }
 
     /// No seats any more. It goes over those that there were, and over no others.

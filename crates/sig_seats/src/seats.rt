@@ -2,7 +2,6 @@
 ghost use Rattle.std.specs.Prelude.{◌≡◌, ℕ, ◌<◌, None, Some, length, IfOk};
 ghost use Rattle.sig_seats.specs.Seats.{all_seats, holder, with_left, with_taken};
 
-use crate::reached::push_in;
 use sig_base::{MOST_NODES, NoMemory, NodeId};
 use std::alloc::Global;
 use std::marker::Model;
@@ -81,7 +80,7 @@ impl Seats {
             }
             None => {
                 let seat = self.taken.len();
-                push_in(&mut self.taken, Some(id));
+                self.taken.push_reserved(Some(id));
                 seat
             }
         }
@@ -95,6 +94,6 @@ impl Seats {
     {
         let _count = self.taken.len();
         self.taken[seat] = None;
-        push_in(&mut self.free, seat);
+        self.free.push_reserved(seat);
     }
 }

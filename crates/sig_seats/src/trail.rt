@@ -1,7 +1,6 @@
 // The way of a search.
 ghost use Rattle.std.specs.Prelude.{◌≡◌, ◌<◌, ◌∷◌, [], length, IfOk, IfSome, IfNone};
 
-use crate::reached::push_in;
 use sig_base::{MOST_NODES, NoMemory, NodeId};
 use std::alloc::Global;
 use std::marker::Model;
@@ -37,7 +36,7 @@ impl Trail {
         requires { length self.old < MOST_NODES }
         ensures { self.new ≡ id ∷ self.old }
     {
-        push_in(&mut self.ids, id);
+        self.ids.push_reserved(id);
     }
 
     /// Goes back from where it is, and tells where that was; none where nothing is on it.

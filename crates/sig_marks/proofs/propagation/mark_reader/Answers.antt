@@ -22,15 +22,14 @@ returns-then-mark_one-clause-fewer c =
     let same = ap unmarked_count (c.mark_one.ensures.marked ∙ set_same t c.args.reader (sym c.mark_one.ensures.was ∙ c.if-mark_one.true)) in
     omega (arith, same)
 
-pub unreachable-requires : goal.unreachable-requires
-unreachable-requires c =
+pub push_reserved-requires : goal.push_reserved-requires
+push_reserved-requires c =
     let ms = c.args.marked.now.entries in
     let within = c.requires.within in
     let len = marks_len ms in
     let fewer = set_fewer (marks_of ms) c.args.reader (omega (arith, within, len)) (sym c.mark_one.ensures.was ∙ c.if-mark_one.false) in
-    let full = c.in-Err.ensures.full in
     let room = c.requires.room in
-    omega (arith, fewer, full, room)
+    omega (arith, fewer, room)
 
 pub returns-clause-room : goal.returns-clause-room
 returns-clause-room c =
@@ -39,8 +38,8 @@ returns-clause-room c =
     let len = marks_len ms in
     let fewer = set_fewer (marks_of ms) c.args.reader (omega (arith, within, len)) (sym c.mark_one.ensures.was ∙ c.if-mark_one.false) in
     let now = ap unmarked_count c.mark_one.ensures.marked in
-    let pushed = c.in-Ok.ensures.len in
-    let capacity = c.in-Ok.ensures.capacity in
+    let pushed = c.push_reserved.ensures.len in
+    let capacity = c.push_reserved.ensures.capacity in
     let room = c.requires.room in
     omega (arith, fewer, now, pushed, capacity, room)
 
@@ -51,7 +50,7 @@ returns-clause-work c =
     let len = marks_len ms in
     let fewer = set_fewer (marks_of ms) c.args.reader (omega (arith, within, len)) (sym c.mark_one.ensures.was ∙ c.if-mark_one.false) in
     let now = ap unmarked_count c.mark_one.ensures.marked in
-    let pushed = c.in-Ok.ensures.len in
+    let pushed = c.push_reserved.ensures.len in
     omega (arith, fewer, now, pushed)
 
 pub returns-clause-fewer : goal.returns-clause-fewer

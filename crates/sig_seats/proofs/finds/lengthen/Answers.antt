@@ -6,8 +6,8 @@ use Rattle.sig_seats.proofs.finds.lengthen.Goals as goal
 pub loop-at-preserved : goal.loop-at-preserved
 loop-at-preserved c =
     let inv = c.loop-at.invariant in
-    let more = c.push_in.ensures.capacity in
+    let more = c.push_reserved.ensures.capacity in
     record {
-      found = λ s. subst (λ (fs : List ℕ). found_at fs s ≡ found_at c.args.at.now.items s) (sym c.push_in.ensures.items) (found_more c.loop-at.at.items s ∙ inv.found s);
+      found = λ s. subst (λ (fs : List ℕ). found_at fs s ≡ found_at c.args.at.now.items s) (sym c.push_reserved.ensures.items) (found_more c.loop-at.at.items s ∙ inv.found s);
       room = let r = inv.room in omega (arith, more, r);
     }

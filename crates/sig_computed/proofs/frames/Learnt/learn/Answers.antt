@@ -10,5 +10,5 @@ returns-clause-reads c =
     let ns = c.self.inside.reads.items in
     let ks = c.self.inside.known.items in
     let one : Known = record { slot = c.args.slot; value = c.args.value } in
-    (λ i. good_seen (c.in_ok-push.ensures.items i) ((c.push_known.ensures ∙ ap (λ l. l ++ one ∷ []) c.in_ok-reserve.ensures.items) i))
+    (λ i. good_seen (c.in_ok-push.ensures.items i) ((c.push_reserved.ensures.items ∙ ap (λ l. l ++ one ∷ []) c.in_ok-reserve.ensures.items) i))
     ∙ seen_all ns ks (record { known = one; name = c.args.id } ∷ []) c.self.invariant ∙ ap (λ (l : Lesson). l.reads ++ record { name = c.args.id; outcome = Good c.args.value } ∷ []) c.self.view_is

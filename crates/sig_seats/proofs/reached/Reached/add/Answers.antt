@@ -11,8 +11,8 @@ index_mut-requires c =
     let inside = c.requires.inside in
     omega (arith, size, inside)
 
-pub push_in-requires : goal.push_in-requires
-push_in-requires c =
+pub push_reserved-requires : goal.push_reserved-requires
+push_reserved-requires c =
     let off = ap (λ (ss : List ℕ). is_in c.args.seat ss) c.self.view_is ∙ c.requires.fresh in
     let more = room_more c.self.inside.flags.items c.self.inside.seats.items (vec_capacity c.self.inside.seats) c.args.seat c.self.invariant c.requires.inside off in
     let room = c.self.invariant.room in
@@ -21,15 +21,16 @@ push_in-requires c =
 pub invariant_of-self : goal.invariant_of-self
 invariant_of-self c =
     let off = ap (λ (ss : List ℕ). is_in c.args.seat ss) c.self.view_is ∙ c.requires.fresh in
-    subst (λ (ss : List ℕ). AreReached (slice_set c.self.inside.flags.items c.args.seat true) ss (vec_capacity c.push_in.new.all)) (sym c.push_in.ensures.items)
-    (reached_more c.self.inside.flags.items c.self.inside.seats.items (vec_capacity c.self.inside.seats) (vec_capacity c.push_in.new.all) c.args.seat c.self.invariant c.requires.inside off c.push_in.ensures.capacity)
+    let kept = c.push_reserved.ensures.capacity in
+    subst (λ (ss : List ℕ). AreReached (slice_set c.self.inside.flags.items c.args.seat true) ss (vec_capacity c.push_reserved.new.self)) (sym c.push_reserved.ensures.items)
+    (reached_more c.self.inside.flags.items c.self.inside.seats.items (vec_capacity c.self.inside.seats) (vec_capacity c.push_reserved.new.self) c.args.seat c.self.invariant c.requires.inside off (omega (arith, kept)))
 
 pub returns-clause-seats : goal.returns-clause-seats
-returns-clause-seats c = c.push_in.ensures.items ∙ ap (λ (ss : List ℕ). ss ++ c.args.seat ∷ []) c.self.view_is
+returns-clause-seats c = c.push_reserved.ensures.items ∙ ap (λ (ss : List ℕ). ss ++ c.args.seat ∷ []) c.self.view_is
 
 pub returns-clause-room : goal.returns-clause-room
 returns-clause-room c =
     let off = ap (λ (ss : List ℕ). is_in c.args.seat ss) c.self.view_is ∙ c.requires.fresh in
     let more = room_more c.self.inside.flags.items c.self.inside.seats.items (vec_capacity c.self.inside.seats) c.args.seat c.self.invariant c.requires.inside off in
-    let len = ap (λ (ss : List ℕ). length ss) c.push_in.ensures.items ∙ length-append c.self.inside.seats.items (c.args.seat ∷ []) in
+    let len = ap (λ (ss : List ℕ). length ss) c.push_reserved.ensures.items ∙ length-append c.self.inside.seats.items (c.args.seat ∷ []) in
     omega (arith, more, len)

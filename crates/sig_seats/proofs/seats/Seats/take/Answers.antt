@@ -53,11 +53,11 @@ returns-in-None-clause-seats c =
     let kept = ap length c.in-None.ensures.items ∙ length-append c.pop.new.self.items [] in
     let room = subst (λ (t : Seating). 0 < t.free) (sym c.self.view_is) c.requires in
     let few : length hs < MOST_NODES = omega (arith, room, none, c.self.invariant.few) in
-    let more = ap length c.push_in.ensures.items in
+    let more = ap length c.push_reserved.ensures.items in
     let seat : c.len-seat.result ≡ length hs = omega (arith, c.len-seat.ensures) in
-    alike_seats (all_seats c.push_in.new.all.items) (slice_set (all_seats hs) c.len-seat.result own) (MOST_NODES - length c.push_in.new.all.items + length c.pop.new.self.items)
+    alike_seats (all_seats c.push_reserved.new.self.items) (slice_set (all_seats hs) c.len-seat.result own) (MOST_NODES - length c.push_reserved.new.self.items + length c.pop.new.self.items)
     (MOST_NODES - length hs + length c.self.inside.free.items - 1)
-    (ap all_seats c.push_in.ensures.items ∙ sym (ap (λ s. slice_set (all_seats hs) s own) seat ∙ all_first hs own few))
+    (ap all_seats c.push_reserved.ensures.items ∙ sym (ap (λ s. slice_set (all_seats hs) s own) seat ∙ all_first hs own few))
     (omega (arith, few, none, kept, more, length-append hs (own ∷ [])))
     ∙ ap (λ (t : Seating). with_taken t c.len-seat.result c.args.id) c.self.view_is
 
