@@ -1,8 +1,8 @@
 -- What a look at a kept source finds, by the nodes and by what these stand for.
-use Rattle.std.proofs.Common.{◌≡◌, ℕ, zero, suc, ◌+◌, ◌<◌, ◌^◌, ◌&&◌, not, Bool, true, false, List, [], ◌∷◌, length, Option, Some, None, refl, sym, ap, ◌∙◌, is_some}
+use Rattle.std.proofs.Common.{◌≡◌, ℕ, zero, suc, ◌&&◌, not, Bool, true, false, List, [], Option, Some, None, refl, sym, ap, ◌∙◌, is_some}
 use Rattle.std.specs.Prelude.{slice_get}
 use Rattle.signal_model.specs.Signals.{is_computed}
-use Rattle.signal_model.specs.Memos.{Memo, Source, holds_cycle, memo_is_cycle, source_names, sources_in, sources_of}
+use Rattle.signal_model.specs.Memos.{Memo, Source, holds_cycle, memo_is_cycle, sources_in, sources_of}
 use Rattle.sig_marks.specs.Tables.{MarkTable, marked_at}
 use Rattle.sig_nodes.specs.declared.node.Node.{Node}
 use Rattle.sig_nodes.specs.declared.node.Body.{Body}
@@ -13,24 +13,12 @@ use Rattle.sig_graph.specs.declared.source_looks.SourceLook.TheVariants as look
 use Rattle.sig_graph.specs.Looks.{is_clean_mark}
 use Rattle.sig_graph.specs.Parts.{memos_of, state_of}
 use Rattle.sig_graph.specs.Places.{KeepsMarks}
-use Rattle.sig_graph.specs.SourceLooks.{HasNextPlace, IsLookHere, IsOpenHere, IsOpenSource, IsReadyHere, IsReadySource, IsSourceLook}
+use Rattle.sig_graph.specs.SourceLooks.{named, IsLookHere, IsOpenHere, IsOpenSource, IsReadyHere, IsReadySource, IsSourceLook}
 use Rattle.sig_nodes.proofs.Shared.{body_got}
 use Rattle.sig_graph.proofs.Consistency.{computed_here}
 use Rattle.sig_graph.proofs.Lookups.{moved_any}
 use Rattle.sig_graph.proofs.Parts.{memo_found, progress_found, stands}
 use Rattle.sig_graph.proofs.Searches.{due_unclean, unmarked_clean}
-
--- the next place is a number whatever was found
-pub next_place : (place : ℕ) (l : SourceLook) → place + 1 < 2 ^ 64 → HasNextPlace place l
-next_place place look.Past h = tt
-next_place place (look.Due n) h = h
-next_place place (look.Marked n) h = h
-next_place place (look.Ready moved) h = h
-
--- there are as many names as sources
-pub names_count : (ss : List Source) → length ss ≡ length (source_names ss)
-names_count [] = refl
-names_count (s ∷ ss) = ap suc (names_count ss)
 
 -- what is and isn't
 pub idle_parts : (a b : Bool) → (a && not b) ≡ true → (a ≡ true) × (b ≡ false)
@@ -48,30 +36,45 @@ calm_parts true true m h p q = cc
 calm_parts false b m h p q = cc
 
 -- a computed that isn't being evaluated, by its node
-pub open_here : (xs : List Node) (n : ℕ) (x : Node) (s : Source) → slice_get xs n ≡ Some x → n ≡ s.name → (is_computed_body x.body && not (is_some (known_body x.body))) ≡ true →
-    IsOpenHere xs (Some s) n
-open_here xs n x s got name h =
+pub open_here : (xs : List Node) (n : ℕ) (x : Node) (o : Option Source) → slice_get xs n ≡ Some x → named o ≡ Some n → (is_computed_body x.body && not (is_some (known_body x.body))) ≡ true →
+    IsOpenHere xs o n
+open_here xs n x o got name h =
     let parts = idle_parts (is_computed_body x.body) (is_some (known_body x.body)) h in
     let body = body_got xs n x got in
     record {
-      named = ap Some (sym name);
+      named = name;
       computed = ap is_computed_body body ∙ parts.0;
       idle = ap (λ (b : Body). is_some (known_body b)) body ∙ parts.1;
     }
 
 -- one that needs no settling, by its node
-pub ready_here : (xs : List Node) (marked : List Bool) (m : Option Memo) (n : ℕ) (x : Node) (s : Source) (moves : Bool) → slice_get xs n ≡ Some x → n ≡ s.name →
-    ((is_computed_body x.body && not (is_some (known_body x.body))) && marked_at marked n) ≡ false → moves ≡ (not (memo_is_cycle m) && has_moved_body xs (Some s)) →
-    IsReadyHere xs marked m (Some s) moves
-ready_here xs marked m n x s moves got name h moved =
+pub ready_here : (xs : List Node) (marked : List Bool) (m : Option Memo) (n : ℕ) (x : Node) (o : Option Source) (moves : Bool) → slice_get xs n ≡ Some x → named o ≡ Some n →
+    ((is_computed_body x.body && not (is_some (known_body x.body))) && marked_at marked n) ≡ false → moves ≡ (not (memo_is_cycle m) && has_moved_body xs o) →
+    IsReadyHere xs marked m o moves
+ready_here xs marked m n x o moves got name h moved =
     let body = body_got xs n x got in
     record {
       name = n;
-      named = ap Some (sym name);
+      named = name;
       calm = λ live idle. calm_parts (is_computed_body x.body) (is_some (known_body x.body)) (marked_at marked n) h
           (ap is_computed_body (sym body) ∙ live) (ap (λ (b : Body). is_some (known_body b)) (sym body) ∙ idle);
       moved = moved;
     }
+
+-- the same of one that is gone
+pub gone_here : (xs : List Node) (marked : List Bool) (m : Option Memo) (n : ℕ) (o : Option Source) (moves : Bool) → body_at xs n ≡ Gone → named o ≡ Some n →
+    moves ≡ (not (memo_is_cycle m) && has_moved_body xs o) → IsReadyHere xs marked m o moves
+gone_here xs marked m n o moves gone name moved = record {
+  name = n;
+  named = name;
+  calm = λ live idle. no_computed (body_at xs n) gone live;
+  moved = moved;
+}
+  where
+    no_computed : (b : Body) → b ≡ Gone → is_computed_body b ≡ true → marked_at marked n ≡ false
+    no_computed Gone h live = cc
+    no_computed (CellBody v r) h live = cc
+    no_computed (ComputedBody c) h live = cc
 
 -- a computed that isn't being evaluated
 open_found : (xs : List Node) (g l w n : ℕ) (o : Option Source) → IsOpenHere xs o n → IsOpenSource (state_of xs g l w) o n

@@ -7,14 +7,14 @@ ghost use Rattle.sig_nodes.specs.declared.node.Body.TheVariants as body;
 ghost use Rattle.sig_nodes.specs.declared.node.Node.{Node};
 ghost use Rattle.sig_nodes.specs.Nodes.{body_at, has_moved_body, is_computed_body, known_body};
 ghost use Rattle.sig_graph.specs.Places.{KeepsFound};
-ghost use Rattle.sig_graph.specs.SourceLooks.{HasNextPlace, IsLookHere, IsSourceLook};
+ghost use Rattle.sig_graph.specs.SourceLooks.{named, HasNextPlace, IsLookHere, IsSourceLook};
 ghost use Rattle.sig_graph.specs.States.{with_look, Becomes};
 
 use crate::evaluation::counted;
 use crate::graph::Graph;
 use sig_base::NodeId;
 use sig_marks::Marks;
-use sig_nodes::{Body, Computation, Node, Nodes, Source, computation_at};
+use sig_nodes::{Body, Computation, Node, Nodes, computation_at};
 use sig_seats::Finds;
 
 /// What a look at a source that a computed keeps finds.
@@ -55,34 +55,47 @@ fn is_open(marks: &Marks, node: &Node, id: NodeId) -> bool
     is_idle(node) && marks.is_marked(id)
 }
 
-// Whether a source has moved, where who keeps it doesn't hold `cycle`.
-fn has_moved(node: &Node, cycle: bool, source: Source) -> bool
-    ensures { (xs : List Node) → slice_get xs source.name ≡ Some node.now → result ≡ (not cycle && has_moved_body xs (Some source)) }
+// Whether the source at a place has moved, where who keeps it doesn't hold `cycle`, by its node.
+fn has_moved(node: &Node, computation: &Computation, place: usize) -> bool
+    ensures { (xs : List Node) (n : ℕ) → slice_get xs n ≡ Some node.now → named (slice_get (sources_in computation.now.memo) place) ≡ Some n → result ≡ (not (memo_is_cycle computation.now.memo) && has_moved_body xs (slice_get (sources_in computation.now.memo) place)) }
 {
-    !cycle && source.has_moved(node)
+    if computation.holds_cycle() {
+        return false;
+    }
+    match computation.source(place) {
+        Some(source) => source.has_moved(node),
+        None => false,
+    }
 }
 
 // The same of one that is gone.
-fn has_gone(cycle: bool, source: Source) -> bool
-    ensures { (xs : List Node) → body_at xs source.name ≡ body.Gone → result ≡ (not cycle && has_moved_body xs (Some source)) }
+fn has_gone(computation: &Computation, place: usize) -> bool
+    ensures { (xs : List Node) (n : ℕ) → body_at xs n ≡ body.Gone → named (slice_get (sources_in computation.now.memo) place) ≡ Some n → result ≡ (not (memo_is_cycle computation.now.memo) && has_moved_body xs (slice_get (sources_in computation.now.memo) place)) }
 {
-    !cycle && source.has_gone()
+    if computation.holds_cycle() {
+        return false;
+    }
+    match computation.source(place) {
+        Some(source) => source.has_gone(),
+        None => false,
+    }
 }
 
-// What a look at the node of a source finds.
+// What a look at the node of the source at a place finds. Only where it needs no settling is it compared with what was read of it.
 fn node_look(
     nodes: &Nodes,
     marks: &Marks,
     finds: &Finds,
     worn: u128,
-    cycle: bool,
-    source: Source,
+    computation: &Computation,
+    place: usize,
+    id: NodeId,
 ) -> SourceLook
-    ensures { (g : ℕ) (m : Option Memo) → KeepsFound nodes.now.items g worn finds.now → memo_is_cycle m ≡ cycle → IsLookHere nodes.now.items marks.now.marked g m (Some source) result }
+    requires { named (slice_get (sources_in computation.now.memo) place) ≡ Some id }
+    ensures { (g : ℕ) → KeepsFound nodes.now.items g worn finds.now → IsLookHere nodes.now.items marks.now.marked g computation.now.memo (slice_get (sources_in computation.now.memo) place) result }
 {
-    let id = source.name();
     let Some(node) = nodes.at(id) else {
-        return SourceLook::Ready(has_gone(cycle, source));
+        return SourceLook::Ready(has_gone(computation, place));
     };
     if is_found(finds, worn, node) {
         return SourceLook::Due(id);
@@ -90,10 +103,11 @@ fn node_look(
     if is_open(marks, node, id) {
         return SourceLook::Marked(id);
     }
-    SourceLook::Ready(has_moved(node, cycle, source))
+    SourceLook::Ready(has_moved(node, computation, place))
 }
 
 // What a look at the source that a computed keeps at a place finds.
+#[inline(always)]
 fn place_look(
     nodes: &Nodes,
     marks: &Marks,
@@ -105,11 +119,11 @@ fn place_look(
     ensures look { (g : ℕ) → KeepsFound nodes.now.items g worn finds.now → IsLookHere nodes.now.items marks.now.marked g computation.now.memo (slice_get (sources_in computation.now.memo) place) result }
     ensures next { HasNextPlace place result }
 {
-    let _count = computation.sources().len();
-    match computation.source(place) {
-        Some(source) => node_look(nodes, marks, finds, worn, computation.holds_cycle(), source),
-        None => SourceLook::Past,
+    let names = computation.sources();
+    if place < names.len() {
+        return node_look(nodes, marks, finds, worn, computation, place, names[place]);
     }
+    SourceLook::Past
 }
 
 impl Graph {

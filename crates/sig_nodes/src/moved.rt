@@ -6,16 +6,8 @@ ghost use Rattle.sig_nodes.specs.Nodes.{body_at, has_moved_body};
 
 use crate::bodies::{node_moved, same_number};
 use crate::node::{Node, Source};
-use sig_base::NodeId;
 
 impl Source {
-    /// The signal that was read.
-    pub fn name(&self) -> NodeId
-        ensures { result ≡ self.now.name }
-    {
-        self.name
-    }
-
     /// Whether it has another number than the one that was read, or is computing, by its node.
     pub fn has_moved(&self, node: &Node) -> bool
         ensures { (xs : List Node) → slice_get xs self.now.name ≡ Some node.now → result ≡ has_moved_body xs (Some self.now) }
