@@ -13,14 +13,14 @@ pub struct Behind {
 
 impl Behind {
     /// None was looked for.
-    pub fn new() -> Behind {
+    pub(crate) fn new() -> Behind {
         Behind {
             place: Cell::new(NOWHERE),
         }
     }
 
     /// Where it is likely, if the one before it stands at a place: where it was found, or at the next place.
-    pub fn likely(&self, place: usize) -> usize {
+    pub(crate) fn likely(&self, place: usize) -> usize {
         let found = self.place.get();
         if found == NOWHERE {
             place.wrapping_add(1)
@@ -30,7 +30,7 @@ impl Behind {
     }
 
     /// It was found at a place.
-    pub fn note(&self, place: usize) {
+    pub(crate) fn note(&self, place: usize) {
         self.place.set(place);
     }
 }
