@@ -85,6 +85,18 @@ pub(crate) enum Turn {
     Falls,
 }
 
+// Nothing is known any more. Mostly one slot was, which is taken off without a loop.
+#[inline(always)]
+fn forget_all(known: &mut Vec<Known>)
+    ensures { known.new.items ≡ [] }
+{
+    let _last = known.pop();
+    if known.is_empty() {
+        return;
+    }
+    known.clear();
+}
+
 impl Learnt {
     /// Nothing.
     pub(crate) fn new(alloc: Global) -> Learnt {
@@ -150,7 +162,7 @@ impl Learnt {
         if self.known.is_empty() {
             return;
         }
-        self.known.clear();
+        forget_all(&mut self.known);
         self.reads.clear();
     }
 }
