@@ -240,7 +240,8 @@ impl Graph {
         Ok(Some(list))
     }
 
-    // Ends an evaluation with a run, and gives what it read in a new list.
+    // Ends an evaluation with a run, and gives what it read in a new list. It stands apart, as most runs read what the ones before did.
+    #[inline(never)]
     fn keep_anew(
         &mut self,
         id: NodeId,

@@ -1,11 +1,12 @@
 // One look at a source that a computed keeps: at the computed's node, and at the source's.
-ghost use Rattle.std.specs.Prelude.{◌≡◌, ℕ, ◌&&◌, not, List, Option, Some, true, false, is_some, slice_get};
-ghost use Rattle.signal_model.specs.Memos.{Memo, memo_is_cycle, sources_in, sources_of};
+ghost use Rattle.std.specs.Prelude.{◌≡◌, ℕ, ◌+◌, ◌<◌, ◌^◌, ◌&&◌, not, List, Option, Some, true, false, IfSome, is_some, slice_get};
+ghost use Rattle.signal_model.specs.Memos.{Memo, holds_cycle, memo_is_cycle, sources_in, sources_of};
 ghost use Rattle.sig_marks.specs.Tables.{marked_at};
 ghost use Rattle.sig_seats.specs.Found.{found_at};
 ghost use Rattle.sig_nodes.specs.declared.node.Body.TheVariants as body;
 ghost use Rattle.sig_nodes.specs.declared.node.Node.{Node};
 ghost use Rattle.sig_nodes.specs.Nodes.{body_at, has_moved_body, is_computed_body, known_body};
+ghost use Rattle.sig_graph.specs.Looks.{has_moved};
 ghost use Rattle.sig_graph.specs.Places.{KeepsFound};
 ghost use Rattle.sig_graph.specs.SourceLooks.{named, HasNextPlace, IsLookHere, IsSourceLook};
 ghost use Rattle.sig_graph.specs.States.{with_look, Becomes};
@@ -82,6 +83,7 @@ fn has_gone(computation: &Computation, place: usize) -> bool
 }
 
 // What a look at the node of the source at a place finds. Only where it needs no settling is it compared with what was read of it.
+#[inline(always)]
 fn node_look(
     nodes: &Nodes,
     marks: &Marks,
@@ -126,10 +128,48 @@ fn place_look(
     SourceLook::Past
 }
 
+// Whether the source that a computed keeps at a place has moved, where that is a certain one, which lives, and the computed doesn't hold
+// `cycle`; none else.
+#[inline(always)]
+fn moved_from(
+    nodes: &Nodes,
+    computation: &Computation,
+    place: usize,
+    source: NodeId,
+) -> Option<bool>
+    ensures named { IfSome result (λ m. named (slice_get (sources_in computation.now.memo) place) ≡ Some source) }
+    ensures moved { IfSome result (λ m. m ≡ (not (memo_is_cycle computation.now.memo) && has_moved_body nodes.now.items (slice_get (sources_in computation.now.memo) place))) }
+    ensures next { IfSome result (λ m. place + 1 < 2 ^ 64) }
+{
+    let names = computation.sources();
+    if computation.holds_cycle() || place >= names.len() || names[place] != source {
+        return None;
+    }
+    match nodes.at(source) {
+        Some(node) => Some(has_moved(node, computation, place)),
+        None => None,
+    }
+}
+
 impl Graph {
+    /// Whether the source that a computed keeps at a place has moved, where that is a certain one, which lives, and the computed doesn't hold
+    /// `cycle`; none else. It looks at nothing else, so that it is less than a look at the source, and is no counted step.
+    #[inline(always)]
+    pub fn moved_source(&self, id: NodeId, place: usize, source: NodeId) -> Option<bool>
+        ensures named { IfSome result (λ m. named (slice_get (sources_of self.now.state.memos id) place) ≡ Some source) }
+        ensures moved { IfSome result (λ m. m ≡ (not (holds_cycle self.now.state.memos id) && has_moved self.now.state (slice_get (sources_of self.now.state.memos id) place))) }
+        ensures next { IfSome result (λ m. place + 1 < 2 ^ 64) }
+    {
+        let _count = self.nodes.made();
+        let computation = computation_at(&self.nodes, id)?;
+        let moved = moved_from(&self.nodes, computation, place, source)?;
+        Some(moved)
+    }
+
     /// Looks at the source that a computed keeps at a place. One that is no computed, is being evaluated or isn't marked needs no settling, and is
     /// compared with what was read of it. Of any other computed it tells whether a search has found that it isn't clean. It is no
     /// counted step, and takes no memory.
+    #[inline(always)]
     pub fn look_at_source(&self, id: NodeId, place: usize) -> SourceLook
         ensures look { IsSourceLook self.now.state id (slice_get (sources_of self.now.state.memos id) place) result }
         ensures next { HasNextPlace place result }
