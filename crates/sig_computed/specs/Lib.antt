@@ -4,6 +4,7 @@ pub mod Lessons
 pub mod Flags
 pub mod Views
 pub mod Turns
+pub mod Waited
 pub mod Reading
 pub mod Steps
 pub mod StepLaws

@@ -1,5 +1,5 @@
 // One step of a frame: a look at a kept source, an answer of the recipe, or a slot that was waited for.
-ghost use Rattle.std.specs.Prelude.{◌≡◌, ◌<◌, ℕ, [], true, false, List, Some, None, IfOk, OnOk, drop, length, slice_get, slice_index};
+ghost use Rattle.std.specs.Prelude.{◌≡◌, ◌+◌, ◌<◌, ◌^◌, ◌&&◌, not, ℕ, [], true, false, List, Some, None, IfOk, IfSome, OnOk, drop, length, slice_get, slice_index};
 ghost use Rattle.signal_model.specs.Recipes.{Hosts, IsJudged};
 ghost use Rattle.signal_model.specs.Signals.{is_computed, is_in, standing};
 ghost use Rattle.signal_model.specs.Memos.{holds_cycle, sources_of};
@@ -8,13 +8,14 @@ ghost use Rattle.sig_computed.specs.Skips.{compare_steps, look_steps, passed_ove
 ghost use Rattle.signal_model.specs.Sound.{standing_outcome};
 ghost use Rattle.sig_nodes.specs.declared.answers.Standing.TheVariants.{Computed};
 ghost use Rattle.sig_nodes.specs.Answers.{answer_here, host_here, kind_here, slots_here};
-ghost use Rattle.sig_graph.specs.Looks.{is_clean_mark};
-ghost use Rattle.sig_graph.specs.SourceLooks.{IsReadySource};
+ghost use Rattle.sig_graph.specs.Looks.{has_moved, is_clean_mark};
+ghost use Rattle.sig_graph.specs.SourceLooks.{named};
 ghost use Rattle.sig_graph.specs.States.{is_computing, is_given, progress_at};
 ghost use Rattle.sig_nodes.specs.Computations.{GoesOn};
 ghost use Rattle.sig_computed.specs.Reading.{HasEnded, HasGoneOn, HasTurned};
 ghost use Rattle.sig_computed.specs.Steps.{answered, decided, is_ready, looked, ready_outcome, slot_read};
 ghost use Rattle.sig_computed.specs.Views.{evaluating, first_moved, first_name, frame_of, move_of, or_cycle, phase_of, progressed, Stays};
+ghost use Rattle.sig_computed.specs.Waited.{IsVisitedSource};
 ghost use Rattle.sig_computed.specs.Asked.{asked_once, places_by, CanAsk};
 ghost use Rattle.sig_computed.specs.Turns.{move_by, move_reads, progress_by, turn_steps, waits, AreReadsGiven, Fits, IsAnswered, IsMove};
 
@@ -37,6 +38,7 @@ pub(crate) fn is_clean(graph: &mut Graph, id: NodeId) -> bool
 
 // Whether a computed that isn't being evaluated needs no settling first: it was visited, or is clean. Where it is known that it isn't clean
 // it needs no look.
+#[inline(always)]
 fn is_settled(
     graph: &mut Graph,
     visited: &mut Visited,
@@ -92,7 +94,8 @@ fn go_on(frame: &mut Open, place: usize, moved: bool) -> Turn
     Turn::GoesOn
 }
 
-// A source that is ready is compared, and decides.
+// A source that is ready is compared, and decides. Mostly the look at a source has compared it, so this stands apart.
+#[inline(never)]
 fn decide(graph: &mut Graph, frame: &mut Open, place: usize) -> Turn
     requires inside { place < length (sources_of graph.old.state.memos frame.old.id) }
     requires small { place < 18446744073709551615 }
@@ -107,6 +110,7 @@ fn decide(graph: &mut Graph, frame: &mut Open, place: usize) -> Turn
 
 // A look into a computed among the kept sources that isn't being evaluated. Its clauses are those of any look, beside what is known of the
 // computed.
+#[inline(always)]
 fn look_into(
     graph: &mut Graph,
     visited: &mut Visited,
@@ -135,14 +139,17 @@ fn look_into(
     Ok(decide(graph, frame, place))
 }
 
-// A source that needs no settling, and of which is known whether it has moved, decides.
+// A source of which is known whether it has moved decides, where it needs no settling.
 fn compared(graph: &mut Graph, frame: &mut Open, place: usize, moved: bool) -> Turn
     requires small { place < 18446744073709551615 }
-    requires source { IsReadySource graph.old.state frame.old.id (slice_get (sources_of graph.old.state.memos frame.old.id) place) moved }
-    ensures turn { (visited : List ℕ) → move_of result frame.new ≡ looked graph.old.state.signals graph.old.state.memos (evaluating graph.old.state) (passed_over graph.old.state.signals graph.old.state.memos visited) (holds_cycle graph.old.state.memos frame.old.id) place (drop place (sources_of graph.old.state.memos frame.old.id)) }
+    requires moved { moved ≡ (not (holds_cycle graph.old.state.memos frame.old.id) && has_moved graph.old.state (slice_get (sources_of graph.old.state.memos frame.old.id) place)) }
+    ensures turn { (visited : List ℕ) (name : ℕ) → named (slice_get (sources_of graph.old.state.memos frame.old.id) place) ≡ Some name →
+        is_ready (standing graph.old.state.signals name) (is_in name (evaluating graph.old.state)) (is_in name (passed_over graph.old.state.signals graph.old.state.memos visited)) ≡ true →
+        move_of result frame.new ≡ looked graph.old.state.signals graph.old.state.memos (evaluating graph.old.state) (passed_over graph.old.state.signals graph.old.state.memos visited) (holds_cycle graph.old.state.memos frame.old.id) place (drop place (sources_of graph.old.state.memos frame.old.id)) }
     ensures id { frame.new.id ≡ frame.old.id }
     ensures given { move_reads (move_of result frame.new) ≡ [] }
-    ensures after { (visited : List ℕ) → Stays graph.old graph.new graph.old.state.progress (source_steps graph.old.state.signals (evaluating graph.old.state) visited (drop place (sources_of graph.old.state.memos frame.old.id)) (move_of result frame.new)) }
+    ensures after { (visited : List ℕ) (name : ℕ) → named (slice_get (sources_of graph.old.state.memos frame.old.id) place) ≡ Some name →
+        Stays graph.old graph.new graph.old.state.progress (source_steps graph.old.state.signals (evaluating graph.old.state) visited (drop place (sources_of graph.old.state.memos frame.old.id)) (move_of result frame.new)) }
 {
     graph.count_step();
     go_on(frame, place, moved)
@@ -167,6 +174,55 @@ fn look(
         SourceLook::Due(id) => look_into(graph, visited, frame, place, id, true),
         SourceLook::Marked(id) => look_into(graph, visited, frame, place, id, false),
         SourceLook::Ready(moved) => Ok(compared(graph, frame, place, moved)),
+    }
+}
+
+// Whether the kept source at a place has moved, where that is what was visited last; none else.
+#[inline(always)]
+fn moved_last(graph: &Graph, visited: &Visited, id: NodeId, place: usize) -> Option<bool>
+    ensures source { IfSome result (λ m. IsVisitedSource graph.now.state visited.now id (slice_get (sources_of graph.now.state.memos id) place) m) }
+    ensures next { IfSome result (λ m. place + 1 < 2 ^ 64) }
+{
+    let last = visited.last()?;
+    let moved = graph.moved_source(id, place, last)?;
+    Some(moved)
+}
+
+// The same apart, for where it is rare.
+#[inline(never)]
+fn look_anew(
+    graph: &mut Graph,
+    visited: &mut Visited,
+    frame: &mut Open,
+    place: usize,
+) -> Result<Turn, NoMemory>
+    ensures turn { IfOk result (λ t. move_of t frame.new ≡ looked graph.old.state.signals graph.old.state.memos (evaluating graph.old.state) (passed_over graph.old.state.signals graph.old.state.memos visited.old) (holds_cycle graph.old.state.memos frame.old.id) place (drop place (sources_of graph.old.state.memos frame.old.id))) }
+    ensures id { OnOk result (frame.new.id ≡ frame.old.id) }
+    ensures given { IfOk result (λ t. move_reads (move_of t frame.new) ≡ []) }
+    ensures after { IfOk result (λ t. Stays graph.old graph.new graph.old.state.progress (source_steps graph.old.state.signals (evaluating graph.old.state) visited.old (drop place (sources_of graph.old.state.memos frame.old.id)) (move_of t frame.new))) }
+    ensures visited { OnOk result ((m : ℕ) → is_in m visited.new ≡ is_in m visited.old) }
+{
+    let turn = look(graph, visited, frame, place)?;
+    Ok(turn)
+}
+
+// A look at the source that was waited for: mostly it was visited last, and is only compared.
+#[inline(always)]
+fn look_again(
+    graph: &mut Graph,
+    visited: &mut Visited,
+    frame: &mut Open,
+    place: usize,
+) -> Result<Turn, NoMemory>
+    ensures turn { IfOk result (λ t. move_of t frame.new ≡ looked graph.old.state.signals graph.old.state.memos (evaluating graph.old.state) (passed_over graph.old.state.signals graph.old.state.memos visited.old) (holds_cycle graph.old.state.memos frame.old.id) place (drop place (sources_of graph.old.state.memos frame.old.id))) }
+    ensures id { OnOk result (frame.new.id ≡ frame.old.id) }
+    ensures given { IfOk result (λ t. move_reads (move_of t frame.new) ≡ []) }
+    ensures after { IfOk result (λ t. Stays graph.old graph.new graph.old.state.progress (source_steps graph.old.state.signals (evaluating graph.old.state) visited.old (drop place (sources_of graph.old.state.memos frame.old.id)) (move_of t frame.new))) }
+    ensures visited { OnOk result ((m : ℕ) → is_in m visited.new ≡ is_in m visited.old) }
+{
+    match moved_last(graph, visited, frame.id, place) {
+        Some(moved) => Ok(compared(graph, frame, place, moved)),
+        None => look_anew(graph, visited, frame, place),
     }
 }
 
@@ -339,7 +395,7 @@ fn turn_of(
 {
     match frame.doing {
         Doing::Looking(place) => look(graph, visited, frame, place),
-        Doing::LookedAt(place) => look(graph, visited, frame, place),
+        Doing::LookedAt(place) => look_again(graph, visited, frame, place),
         Doing::Running => run(alloc, graph, shelf, frame),
         Doing::Waiting(slot) => wait(graph, visited, frame, slot),
     }

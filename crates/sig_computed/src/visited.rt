@@ -1,5 +1,5 @@
 // Which computeds a call of settling has visited.
-ghost use Rattle.std.specs.Prelude.{◌≡◌, ℕ, ◌∷◌, ◌++◌, [], true, IfOk, OnOk};
+ghost use Rattle.std.specs.Prelude.{◌≡◌, ℕ, ◌∷◌, ◌++◌, [], true, IfOk, IfSome, OnOk};
 ghost use Rattle.signal_model.specs.Signals.{is_in};
 ghost use Rattle.sig_computed.specs.Flags.{flag_of, is_raised, AreFlagged};
 
@@ -115,6 +115,17 @@ impl Visited {
         }
     }
 
+    /// The computed that was visited last, where that is known.
+    #[inline(always)]
+    pub(crate) fn last(&self) -> Option<NodeId>
+        ensures { IfSome result (λ id. is_in id self.now ≡ true) }
+    {
+        match self.late.last() {
+            Some(last) => Some(*last),
+            None => None,
+        }
+    }
+
     /// Whether a computed was visited last, which is told without a hash: what was settled just now is mostly what is asked for next.
     pub(crate) fn is_last(&self, id: NodeId) -> bool
         ensures { result ≡ true → is_in id self.now ≡ true }
@@ -166,8 +177,9 @@ impl Visited {
         Ok(())
     }
 
-    /// Whether a computed is among them. Only where its flag is up is what was visited since hashed, unless it is little.
-    pub(crate) fn has(&mut self, id: NodeId) -> Result<bool, NoMemory>
+    // Whether a computed is among them, where there are some. Only where its flag is up is what was visited since hashed, unless it is little.
+    #[inline(never)]
+    fn has_some(&mut self, id: NodeId) -> Result<bool, NoMemory>
         ensures has { IfOk result (λ b. b ≡ is_in id self.old) }
         ensures same { OnOk result ((m : ℕ) → is_in m self.new ≡ is_in m self.old) }
     {
@@ -177,6 +189,32 @@ impl Visited {
         }
         self.hash_late()?;
         Ok(self.holds(id))
+    }
+
+    // Whether there are none.
+    fn is_none(&self) -> bool
+        ensures { result ≡ true → self.now ≡ [] }
+    {
+        if !self.late.is_empty() {
+            return false;
+        }
+        if !self.ids.is_empty() {
+            return false;
+        }
+        true
+    }
+
+    /// Whether a computed is among them, which takes few steps where there are none.
+    #[inline(always)]
+    pub(crate) fn has(&mut self, id: NodeId) -> Result<bool, NoMemory>
+        ensures has { IfOk result (λ b. b ≡ is_in id self.old) }
+        ensures same { OnOk result ((m : ℕ) → is_in m self.new ≡ is_in m self.old) }
+    {
+        if self.is_none() {
+            return Ok(false);
+        }
+        let has = self.has_some(id)?;
+        Ok(has)
     }
 
     /// One more.

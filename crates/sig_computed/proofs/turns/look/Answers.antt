@@ -7,7 +7,7 @@ use Rattle.sig_graph.specs.States.{is_computing}
 use Rattle.sig_computed.specs.Skips.{passed_over}
 use Rattle.sig_computed.specs.Views.{evaluating}
 use Rattle.sig_computed.proofs.Leaves.{idle_kind}
-use Rattle.sig_computed.proofs.Looks.{look_none, stays_here}
+use Rattle.sig_computed.proofs.Looks.{look_none, source_ready, stays_here}
 use Rattle.sig_computed.proofs.Sources.{name_at, named_inside}
 use Rattle.sig_computed.proofs.turns.look.Goals as goal
 
@@ -93,13 +93,23 @@ compared-requires-clause-small c =
     let next = subst (HasNextPlace c.args.place) c.in-Ready.is c.look_at_source.ensures.next in
     omega (arith, next)
 
-pub compared-requires-clause-source : goal.compared-requires-clause-source
-compared-requires-clause-source c =
+pub compared-requires-clause-moved : goal.compared-requires-clause-moved
+compared-requires-clause-moved c =
     let s = c.args.graph.now.state in
-    subst (IsSourceLook s c.args.frame.now.id (slice_get (sources_of s.memos c.args.frame.now.id) c.args.place)) c.in-Ready.is c.look_at_source.ensures.look
+    let r = subst (IsSourceLook s c.args.frame.now.id (slice_get (sources_of s.memos c.args.frame.now.id) c.args.place)) c.in-Ready.is c.look_at_source.ensures.look in
+    r.moved
 
 pub returns-in-Ready-clause-turn : goal.returns-in-Ready-clause-turn
-returns-in-Ready-clause-turn c = c.compared.ensures.turn c.args.visited.now
+returns-in-Ready-clause-turn c =
+    let s = c.args.graph.now.state in
+    let visited = c.args.visited.now in
+    let o = slice_get (sources_of s.memos c.args.frame.now.id) c.args.place in
+    let r = subst (IsSourceLook s c.args.frame.now.id o) c.in-Ready.is c.look_at_source.ensures.look in
+    c.compared.ensures.turn visited r.name r.named (source_ready s visited c.args.frame.now.id o c.in-Ready.moved r)
 
 pub returns-in-Ready-clause-after : goal.returns-in-Ready-clause-after
-returns-in-Ready-clause-after c = c.compared.ensures.after c.args.visited.now
+returns-in-Ready-clause-after c =
+    let s = c.args.graph.now.state in
+    let o = slice_get (sources_of s.memos c.args.frame.now.id) c.args.place in
+    let r = subst (IsSourceLook s c.args.frame.now.id o) c.in-Ready.is c.look_at_source.ensures.look in
+    c.compared.ensures.after c.args.visited.now r.name r.named
