@@ -267,7 +267,9 @@ fn keep_spare(spares: &mut Vec<Box<Learnt>>, learnt: Box<Learnt>) {
     }
 }
 
-// What was put aside is again what a frame has learnt, and what it has now is left for the next time.
+// What was put aside is again what a frame has learnt, and what it has now is left for the next time. It stands apart, as most frames wait
+// before they run.
+#[inline(never)]
 fn take_back(frame: &mut Open, aside: Box<Learnt>)
     ensures learnt { frame.new.learnt ≡ aside.value }
     ensures id { frame.new.id ≡ frame.old.id }
@@ -279,6 +281,7 @@ fn take_back(frame: &mut Open, aside: Box<Learnt>)
 }
 
 // A frame is again what it was before it waited.
+#[inline(always)]
 fn take_up(frame: &mut Open, outer: Outer)
     ensures { frame_of frame.new ≡ outer_of outer }
 {

@@ -2,6 +2,8 @@
 ghost use Rattle.std.specs.Prelude.{◌≡◌, ◌+◌, ◌*◌, ◌<◌, ◌≤◌, ◌^◌, ◌++◌, ◌∷◌, ℕ, [], List, true, false, None, Some, IfOk, IfSome, OnOk, map, reverse, length, vec_len};
 ghost use Rattle.std.specs.List.{All};
 ghost use Rattle.sig_base.specs.declared.value.Outcome.{Outcome};
+ghost use Rattle.sig_base.specs.declared.value.Outcome.TheVariants.{Good};
+ghost use Rattle.sig_base.specs.declared.value.Value.TheVariants.{Int};
 ghost use Rattle.signal_model.specs.Recipes.{Hosts};
 ghost use Rattle.signal_model.specs.Signals.{is_computed, is_in, standing};
 ghost use Rattle.signal_model.specs.Values.{value_of, Seen};
@@ -20,7 +22,7 @@ use crate::frames::{Doing, Learnt, Open, Outer, Turn, begin_run, go_in, go_out};
 use crate::notes::RunNote;
 use crate::turns::{is_clean, next_turn, outcome_of};
 use crate::visited::Visited;
-use sig_base::{Fault, NoMemory, NodeId, Outcome};
+use sig_base::{Fault, NoMemory, NodeId, Outcome, Value};
 use sig_graph::{Graph, IdList, Standing};
 use sig_host::{Lent, Shelf};
 use std::alloc::Global;
@@ -70,7 +72,30 @@ fn keep_in(
     Ok(list)
 }
 
+// The whole number that an outcome is, if any.
+#[inline(always)]
+fn int_of(outcome: &Outcome) -> Option<i64>
+    ensures { IfSome result (λ n. outcome.now ≡ Good (Int n)) }
+{
+    match outcome {
+        Outcome::Good(Value::Int(n)) => Some(*n),
+        _ => None,
+    }
+}
+
+// Takes an outcome; what stands in its place then doesn't count. A whole number is copied, which is less than to put something in its place.
+#[inline(always)]
+fn take_outcome(outcome: &mut Outcome) -> Outcome
+    ensures { result ≡ outcome.old }
+{
+    match int_of(outcome) {
+        Some(n) => Outcome::Good(Value::Int(n)),
+        None => mem::replace(outcome, Outcome::Bad(Fault::Cycle)),
+    }
+}
+
 // Keeps a run by the names of what it read, and notes it: the note has the outcome that stood in its place, and the graph a copy.
+#[inline(always)]
 fn keep(
     graph: &mut Graph,
     notes: &mut Vec<RunNote>,
@@ -85,7 +110,7 @@ fn keep(
     ensures notes { OnOk result (map note_of notes.new.items ≡ map note_of notes.old.items ++ (record { name = node; reads = names.now; outcome = outcome.old }) ∷ []) }
 {
     let reads = keep_in(graph, node, names, outcome)?;
-    let noted = mem::replace(outcome, Outcome::Bad(Fault::Cycle));
+    let noted = take_outcome(outcome);
     notes.push(RunNote {
         id: node,
         reads,
@@ -113,7 +138,8 @@ fn keep_ended(graph: &mut Graph, notes: &mut Vec<RunNote>, frame: &mut Open) -> 
     Ok(())
 }
 
-// Keeps the run of a frame that a source has ended, which was read last.
+// Keeps the run of a frame that a source has ended, which was read last. It stands apart, as it is rare.
+#[inline(never)]
 fn keep_fallen(
     alloc: Global,
     graph: &mut Graph,
