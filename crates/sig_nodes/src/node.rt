@@ -190,6 +190,24 @@ fn is_same(outcome: &Outcome, other: &Outcome) -> bool
     }
 }
 
+// Puts a whole number in place of a whole number, which takes no memory. Whether both are such.
+#[inline(always)]
+fn put_int(held: &mut Outcome, outcome: &Outcome) -> bool
+    ensures put { result ≡ true → held.new ≡ outcome.now }
+    ensures left { result ≡ false → held.new ≡ held.old }
+{
+    let Outcome::Good(Value::Int(n)) = outcome else {
+        return false;
+    };
+    match held {
+        Outcome::Good(Value::Int(m)) => {
+            *m = *n;
+            true
+        }
+        _ => false,
+    }
+}
+
 // Puts an outcome in place of another one, and raises a number by one, where the two aren't the same. Without memory nothing changes.
 fn put_outcome(held: &mut Outcome, number: &mut u128, outcome: &Outcome) -> Result<(), NoMemory>
     requires { number.old + 1 < 2 ^ 128 }
@@ -199,6 +217,10 @@ fn put_outcome(held: &mut Outcome, number: &mut u128, outcome: &Outcome) -> Resu
     ensures err_number { OnErr result (number.new ≡ number.old) }
 {
     if is_same(held, outcome) {
+        return Ok(());
+    }
+    if put_int(held, outcome) {
+        *number += 1;
         return Ok(());
     }
     *held = outcome.copy()?;
