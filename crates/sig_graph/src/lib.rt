@@ -20,3 +20,4 @@ pub use errors::NodeFault;
 pub use graph::Graph;
 pub use sig_nodes::{Asked, IdList, Mark, Recipe, Standing};
 pub use source_looks::SourceLook;
+pub use spares::clear_few;

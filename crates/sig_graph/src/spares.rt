@@ -13,13 +13,25 @@ pub(crate) struct Spares {
     visited: Vec<NodeId>,
 }
 
+/// Takes all off a list. Mostly it has one or none, so that no loop is begun.
+#[inline(always)]
+pub fn clear_few<T: Drop>(list: &mut Vec<T>)
+    ensures { list.new.items ≡ [] }
+{
+    let _last = list.pop();
+    if list.is_empty() {
+        return;
+    }
+    list.clear();
+}
+
 // Changes a list for another one, which is empty then.
 fn exchange<T: Drop>(spare: &mut Vec<T>, list: &mut Vec<T>)
     ensures { list.new.items ≡ [] }
 {
     mem::swap(spare, list);
-    spare.clear();
-    list.clear();
+    clear_few(spare);
+    clear_few(list);
 }
 
 impl Spares {
