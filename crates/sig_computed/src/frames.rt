@@ -11,7 +11,7 @@ ghost use Rattle.sig_computed.specs.Steps.{Running};
 ghost use Rattle.sig_computed.specs.Views.{blank_phase, frame_of, held, outer_of, outer_phase, phase_of, tops};
 
 use sig_base::{Fault, Known, NoMemory, NodeId, Outcome, Value};
-use sig_graph::Graph;
+use sig_graph::{Graph, clear_few};
 use std::alloc::Global;
 use std::marker::Model;
 use std::mem;
@@ -85,18 +85,6 @@ pub(crate) enum Turn {
     Falls,
 }
 
-// Nothing is known any more. Mostly one slot was, which is taken off without a loop.
-#[inline(always)]
-fn forget_all(known: &mut Vec<Known>)
-    ensures { known.new.items ≡ [] }
-{
-    let _last = known.pop();
-    if known.is_empty() {
-        return;
-    }
-    known.clear();
-}
-
 impl Learnt {
     /// Nothing.
     pub(crate) fn new(alloc: Global) -> Learnt {
@@ -162,7 +150,7 @@ impl Learnt {
         if self.known.is_empty() {
             return;
         }
-        forget_all(&mut self.known);
+        clear_few(&mut self.known);
         self.reads.clear();
     }
 }

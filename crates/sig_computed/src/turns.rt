@@ -227,6 +227,7 @@ fn look_again(
 }
 
 /// What a source that is ready is read as.
+#[inline(always)]
 pub(crate) fn outcome_of(graph: &Graph, id: NodeId) -> Result<Outcome, NoMemory>
     ensures { IfOk result (λ o. o ≡ or_cycle (ready_outcome (standing graph.now.state.signals id) (is_in id (evaluating graph.now.state)) (standing_outcome graph.now.state.signals graph.now.state.memos id))) }
 {
