@@ -14,8 +14,8 @@ const FEWEST: usize = 64;
 const MOST: usize = 16_384;
 
 /// Names that were read lately, each at the place that its bytes give it, where the next one with that place takes it. One that comes again is
-/// neither judged nor put into memory again: it shares the bytes of the one that is known. There are twice as many places after as many names
-/// weren't known as there are places.
+/// neither judged nor put into memory again: it shares the bytes of the one that is known. There are twice as many places after an eighth as
+/// many names weren't known as there are places.
 #[derive(Drop)]
 pub struct KnownNames {
     names: Vec<Option<Name>>,
@@ -80,7 +80,7 @@ impl KnownNames {
     // Notes that a name wasn't known.
     fn miss(&mut self) -> Result<(), NoMemory> {
         let count = self.names.len();
-        if self.missed < count {
+        if self.missed < count / 8 {
             self.missed += 1;
             return Ok(());
         }
