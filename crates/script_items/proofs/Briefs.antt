@@ -1,13 +1,11 @@
 -- What scripts say most is one line, and the item that begins there.
 use Rattle.std.proofs.Common.{◌≡◌, ◌≤◌, ℕ, ◌+◌, true, false, List, [], ◌∷◌, ◌++◌, Some, codes, length, drop, refl, sym, ap, subst, ◌∙◌, append_assoc, arith, inl}
-use Rattle.std.specs.Fmt.{signed_decimal}
 use Rattle.std.specs.Prelude.{nat_lt}
 use Rattle.std.proofs.Math.Seq.{drop-append-add}
 use Rattle.std.proofs.lemmas.Bool.Decides.{nat_tests}
 use Rattle.std.proofs.lemmas.List.{append-nil, drop-drop, length-append, length-drop}
 use Rattle.sig_base.specs.declared.limits.TheConstants.{MOST_LINE}
 use Rattle.sig_base.specs.declared.scalar.Scalar.{Scalar}
-use Rattle.sig_base.specs.declared.scalar.Scalar.TheVariants as scalar
 use Rattle.sig_words.specs.Lexemes.{word}
 use Rattle.line_forms.specs.Printed.{line_text}
 use Rattle.line_forms.specs.Reader.{name_of}
@@ -24,7 +22,7 @@ use Rattle.script_items.specs.Items.{Begins}
 use Rattle.script_items.specs.Briefs.{IsShort, IsWholeLine}
 use Rattle.script_items.specs.Views.{IsPlain}
 use Rattle.script_items.proofs.Blocks.{too_few}
-use Rattle.script_items.proofs.Commonest.{plain_get, plain_set}
+use Rattle.script_items.proofs.Commonest.{plain_get, plain_set, set_printed}
 use Rattle.script_items.proofs.FirstWords.{begins_none}
 use Rattle.script_items.proofs.Items.{is_plain}
 
@@ -57,35 +55,11 @@ get_line t n e =
     printed_line x (codes "get " ++ t) (item.Do (command.Named verbs.Get n)) text (text_writes commands x refl ((is.0, name_word t is.0), tt)) refl
     (λ k. plain_get k t n e)
 
--- the text of a name and a value
-set_text : (p q d : List ℕ) → q ≡ d → codes "set " ++ ((p ++ []) ++ 32 ∷ ((d ++ []) ++ [])) ≡ codes "set " ++ (p ++ 32 ∷ q)
-set_text p q d is =
-    ap (λ (bs : List ℕ). codes "set " ++ (bs ++ 32 ∷ ((d ++ []) ++ []))) (append-nil p)
-    ∙ ap (λ (bs : List ℕ). codes "set " ++ (p ++ 32 ∷ bs)) (append-nil (d ++ []) ∙ append-nil d ∙ sym is)
-
 -- `set`, a name, and a whole number or a truth
 pub set_line : (p q n : List ℕ) (v : Scalar) → Some n ≡ name_of (word p) → IsShort v q → IsWholeLine (codes "set " ++ (p ++ 32 ∷ q)) (item.Do (command.Set n v))
-set_line p q n (scalar.Int z) e h =
-    let is = name_is p n e in
-    let x : Said = (set, (p, (scalar.Int z, tt))) in
-    let text : line_text commands x ≡ codes "set " ++ (p ++ 32 ∷ q) = set_text p q (signed_decimal z) h.1 in
-    printed_line x (codes "set " ++ (p ++ 32 ∷ q)) (item.Do (command.Set n (scalar.Int z))) text
-    (text_writes commands x refl ((is.0, name_word p is.0), ((refl, h.0), tt))) refl (λ k. plain_set k (p ++ 32 ∷ q) p q n z refl e h.0 h.1)
-set_line p q n (scalar.Bool true) e h =
-    let is = name_is p n e in
-    let x : Said = (set, (p, (scalar.Bool true, tt))) in
-    let text : line_text commands x ≡ codes "set " ++ (p ++ 32 ∷ q) = set_text p q (codes "true") h in
-    let writes : Writes x (line_text commands x) = text_writes commands x refl ((is.0, name_word p is.0), ((refl, refl), tt)) in
-    printed_line x (codes "set " ++ (p ++ 32 ∷ q)) (item.Do (command.Set n (scalar.Bool true))) text writes refl
-    (λ k. inl (x, subst (Writes x) text writes, refl, rw is.1 refl))
-set_line p q n (scalar.Bool false) e h =
-    let is = name_is p n e in
-    let x : Said = (set, (p, (scalar.Bool false, tt))) in
-    let text : line_text commands x ≡ codes "set " ++ (p ++ 32 ∷ q) = set_text p q (codes "false") h in
-    let writes : Writes x (line_text commands x) = text_writes commands x refl ((is.0, name_word p is.0), ((refl, refl), tt)) in
-    printed_line x (codes "set " ++ (p ++ 32 ∷ q)) (item.Do (command.Set n (scalar.Bool false))) text writes refl
-    (λ k. inl (x, subst (Writes x) text writes, refl, rw is.1 refl))
-set_line p q n (scalar.Text t) e h = absurd h
+set_line p q n v e h =
+    let told = set_printed p q n v e h in
+    printed_line (set, (p, (v, tt))) (codes "set " ++ (p ++ 32 ∷ q)) (item.Do (command.Set n v)) told.0 told.1 refl (λ k. plain_set k (p ++ 32 ∷ q) p q n v refl e h)
 
 -- ---- where it stands
 

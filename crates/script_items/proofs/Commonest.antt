@@ -1,10 +1,8 @@
 -- What the commonest lines say, by the bytes behind their first word and a blank.
-use Rattle.std.proofs.Common.{◌≡◌, ℕ, List, [], ◌∷◌, ◌++◌, Some, codes, refl, sym, ap, subst, ◌∙◌, inl}
+use Rattle.std.proofs.Common.{◌≡◌, ℕ, true, false, List, [], ◌∷◌, ◌++◌, Some, codes, refl, sym, ap, subst, ◌∙◌, inl}
 use Rattle.std.specs.Fmt.{signed_decimal}
-use Rattle.std.specs.Int.{w64}
-use Rattle.std.specs.Int.RustNames.{FitsSigned}
-use Rattle.std.specs.Prelude.{ℤ}
 use Rattle.std.proofs.lemmas.List.{append-nil}
+use Rattle.sig_base.specs.declared.scalar.Scalar.{Scalar}
 use Rattle.sig_base.specs.declared.scalar.Scalar.TheVariants as scalar
 use Rattle.sig_words.specs.Lexemes.{word}
 use Rattle.line_forms.specs.Printed.{line_text}
@@ -15,6 +13,8 @@ use Rattle.live_cmd.specs.declared.command.Command.TheVariants as command
 use Rattle.live_cmd.specs.declared.command.Item.TheVariants as item
 use Rattle.live_cmd.specs.declared.command.Verb.TheVariants as verbs
 use Rattle.live_cmd.specs.Grammar.{bare, commands, verb, set, Said, Writes}
+use Rattle.script_items.specs.Briefs.{IsShort}
+use Rattle.script_items.specs.Items.{item_of}
 use Rattle.script_items.specs.Views.{IsPlain}
 
 -- `get` and a name
@@ -25,18 +25,37 @@ plain_get k t n e =
     let text : line_text commands x ≡ codes "get " ++ t = ap (λ (bs : List ℕ). codes "get " ++ bs) (append-nil (t ++ []) ∙ append-nil t) in
     inl (x, subst (Writes x) text (text_writes commands x refl ((is.0, name_word t is.0), tt)), refl, rw is.1 refl)
 
--- `set`, a name and a whole number
-pub plain_set : (k : ℕ) (t p q n : List ℕ) (z : ℤ) → t ≡ p ++ 32 ∷ q → Some n ≡ name_of (word p) → FitsSigned w64 z → q ≡ signed_decimal z
-    → IsPlain (k, codes "set " ++ t) (item.Do (command.Set n (scalar.Int z)))
-plain_set k t p q n z parts e fits number =
-    let is = name_is p n e in
-    let x : Said = (set, (p, (scalar.Int z, tt))) in
-    let d = signed_decimal z in
-    let text : line_text commands x ≡ codes "set " ++ t =
+-- the text of a name and a value
+set_text : (p q d : List ℕ) → q ≡ d → codes "set " ++ ((p ++ []) ++ 32 ∷ ((d ++ []) ++ [])) ≡ codes "set " ++ (p ++ 32 ∷ q)
+set_text p q d is =
     ap (λ (bs : List ℕ). codes "set " ++ (bs ++ 32 ∷ ((d ++ []) ++ []))) (append-nil p)
-    ∙ ap (λ (bs : List ℕ). codes "set " ++ (p ++ 32 ∷ bs)) (append-nil (d ++ []) ∙ append-nil d ∙ sym number)
-    ∙ ap (λ (bs : List ℕ). codes "set " ++ bs) (sym parts) in
-    inl (x, subst (Writes x) text (text_writes commands x refl ((is.0, name_word p is.0), ((refl, fits), tt))), refl, rw is.1 refl)
+    ∙ ap (λ (bs : List ℕ). codes "set " ++ (p ++ 32 ∷ bs)) (append-nil (d ++ []) ∙ append-nil d ∙ sym is)
+
+-- what is printed of `set`, a name, and a whole number or a truth
+pub set_printed : (p q n : List ℕ) (v : Scalar) → Some n ≡ name_of (word p) → IsShort v q →
+    (line_text commands (set, (p, (v, tt))) ≡ codes "set " ++ (p ++ 32 ∷ q)) × Writes (set, (p, (v, tt))) (line_text commands (set, (p, (v, tt))))
+set_printed p q n (scalar.Int z) e h =
+    (set_text p q (signed_decimal z) h.1, text_writes commands (set, (p, (scalar.Int z, tt))) refl (((name_is p n e).0, name_word p (name_is p n e).0), ((refl, h.0), tt)))
+set_printed p q n (scalar.Bool true) e h =
+    (set_text p q (codes "true") h, text_writes commands (set, (p, (scalar.Bool true, tt))) refl (((name_is p n e).0, name_word p (name_is p n e).0), ((refl, refl), tt)))
+set_printed p q n (scalar.Bool false) e h =
+    (set_text p q (codes "false") h, text_writes commands (set, (p, (scalar.Bool false, tt))) refl (((name_is p n e).0, name_word p (name_is p n e).0), ((refl, refl), tt)))
+set_printed p q n (scalar.Text t) e h = absurd h
+
+-- what it is
+set_item : (k : ℕ) (p q : List ℕ) (v : Scalar) → IsShort v q → item.Do (command.Set p v) ≡ item_of k (set, (p, (v, tt)))
+set_item k p q (scalar.Int z) h = refl
+set_item k p q (scalar.Bool true) h = refl
+set_item k p q (scalar.Bool false) h = refl
+set_item k p q (scalar.Text t) h = absurd h
+
+-- `set`, a name, and a whole number or a truth
+pub plain_set : (k : ℕ) (t p q n : List ℕ) (v : Scalar) → t ≡ p ++ 32 ∷ q → Some n ≡ name_of (word p) → IsShort v q → IsPlain (k, codes "set " ++ t) (item.Do (command.Set n v))
+plain_set k t p q n v parts e h =
+    let x : Said = (set, (p, (v, tt))) in
+    let told = set_printed p q n v e h in
+    let text : line_text commands x ≡ codes "set " ++ t = told.0 ∙ ap (λ (bs : List ℕ). codes "set " ++ bs) (sym parts) in
+    inl (x, subst (Writes x) text told.1, refl, rw (name_is p n e).1 (set_item k p q v h))
 
 -- `flush`
 pub plain_flush : (k : ℕ) → IsPlain (k, codes "flush") (item.Do (command.Bare bares.Flush))

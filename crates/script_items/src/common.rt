@@ -1,15 +1,11 @@
 // Reads the commonest lines, of which each part stands behind one blank, without cutting them into tokens.
 ghost use Rattle.std.specs.Prelude.{◌≡◌, ◌∷◌, ◌++◌, ℕ, codes, IfOk, IfSome};
-ghost use Rattle.std.specs.Fmt.{signed_decimal};
-ghost use Rattle.std.specs.Int.{w64};
-ghost use Rattle.std.specs.Int.RustNames.{FitsSigned};
 ghost use Rattle.script_items.specs.Views.{IsPlain};
 
 use crate::known::KnownNames;
+use crate::short::short;
 use line_forms::Unread;
 use live_cmd::{Bare, Command, Item, Verb};
-use sig_base::Scalar;
-use sig_words::integer;
 use std::alloc::Global;
 
 // `get N`, behind the word and a blank.
@@ -34,28 +30,17 @@ pub(crate) fn parted(text: &[u8], byte: u8) -> Option<(&[u8], &[u8])>
     Some((front, behind))
 }
 
-/// The whole number that a text is.
-pub(crate) fn whole(text: &[u8]) -> Option<i64>
-    ensures { IfSome result (λ z. FitsSigned w64 z × (text.now ≡ signed_decimal z)) }
-{
-    let Some(value) = integer(text) else {
-        return None;
-    };
-    Some(value)
-}
-
-// `set N LIT` with a whole number, behind the word and a blank.
+// `set N LIT` with a whole number or a truth, behind the word and a blank.
 fn set(alloc: Global, known: &mut KnownNames, text: &[u8]) -> Result<Item, Unread>
     ensures { (k : ℕ) → IfOk result (λ i. IsPlain (k, codes "set " ++ text.now) i) }
 {
-    let Some((name, number)) = parted(text, b' ') else {
+    let Some((name, value)) = parted(text, b' ') else {
         return Err(Unread::NotThere);
     };
-    let Some(value) = whole(number) else {
+    let Some(value) = short(value) else {
         return Err(Unread::NotThere);
     };
     let name = known.name(alloc, name)?;
-    let value = Scalar::Int(value);
     Ok(Item::Do(Command::Set { name, value }))
 }
 

@@ -9,6 +9,7 @@ mod known;
 mod laws;
 mod many_fields;
 mod quick;
+mod short;
 
 pub use item::next_item;
 pub use known::KnownNames;

@@ -1,11 +1,11 @@
 // Reads what scripts say most where its names are known, at once and as far as the LF, without looking for its piece.
 ghost use Rattle.std.specs.Prelude.{◌≡◌, ◌+◌, ◌-◌, ◌^◌, ◌<◌, ◌≤◌, ◌++◌, codes, length, IfOk, IfSome};
-ghost use Rattle.std.specs.Fmt.{decimal};
 ghost use Rattle.script_items.specs.Items.{Begins};
-ghost use Rattle.script_items.specs.Briefs.{brief_item, IsFront, IsShort};
+ghost use Rattle.script_items.specs.Briefs.{brief_item, IsFront};
 
-use crate::common::{behind_word, parted, whole};
+use crate::common::{behind_word, parted};
 use crate::known::KnownNames;
+use crate::short::short;
 use live_cmd::{Command, Item, Verb};
 use sig_base::{MOST_LINE, Name, NoMemory, Scalar};
 
@@ -44,48 +44,6 @@ fn get(known: &KnownNames, text: &[u8]) -> Result<Option<(Brief, usize)>, NoMemo
         return Ok(None);
     };
     Ok(Some((Brief::Get(name), rest.len())))
-}
-
-// From this number on, no digit is put behind another.
-const LONG: u64 = 100_000_000_000_000_000;
-
-// The number that a text of digits is which isn't long and has no zero to spare.
-fn natural(text: &[u8]) -> Option<u64>
-    ensures { IfSome result (λ n. (n < 2 ^ 63) × (text.now ≡ decimal n)) }
-{
-    let Some((first, digits)) = text.split_first() else {
-        return None;
-    };
-    if *first < b'1' || b'9' < *first {
-        return None;
-    }
-    let mut number = u64::from(*first - b'0');
-    for digit in digits {
-        if LONG <= number || *digit < b'0' || b'9' < *digit {
-            return None;
-        }
-        number = number * 10 + u64::from(*digit - b'0');
-    }
-    Some(number)
-}
-
-// The whole number or the truth that a text is.
-fn short(text: &[u8]) -> Option<Scalar>
-    ensures { IfSome result (λ v. IsShort v text.now) }
-{
-    if let Some(number) = natural(text) {
-        return Some(Scalar::Int(number as i64));
-    }
-    if let Some(number) = whole(text) {
-        return Some(Scalar::Int(number));
-    }
-    if text == b"true".as_slice() {
-        return Some(Scalar::Bool(true));
-    }
-    if text == b"false".as_slice() {
-        return Some(Scalar::Bool(false));
-    }
-    None
 }
 
 // `set N LIT` with a whole number or a truth, behind the word and a blank, and how many bytes stand behind its LF.

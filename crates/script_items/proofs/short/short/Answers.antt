@@ -1,7 +1,7 @@
 use Rattle.std.proofs.lemmas.Int.{fits_signed_from_abs, to_z-of_z, to_z_pos}
 use Rattle.std.specs.Int.{w64}
 use Rattle.std.specs.Prelude.{pos}
-use Rattle.script_items.proofs.quick.short.Goals as goal
+use Rattle.script_items.proofs.short.short.Goals as goal
 
 pub returns-in-Some : goal.returns-in-Some
 returns-in-Some c =

@@ -3,7 +3,7 @@ use Rattle.std.specs.Fmt.{decimal}
 use Rattle.std.proofs.lemmas.Fmt.{decimal_digit}
 use Rattle.std.proofs.lemmas.List.{drop_more}
 use Rattle.script_items.proofs.Naturals.{one_more}
-use Rattle.script_items.proofs.quick.natural.Goals as goal
+use Rattle.script_items.proofs.short.natural.Goals as goal
 
 pub loop-digit-init : goal.loop-digit-init
 loop-digit-init c =

@@ -1,6 +1,6 @@
 use Rattle.std.proofs.Common.{◌≡◌, ◌<◌, ◌^◌, ◌++◌, drop}
 use Rattle.std.specs.Fmt.{decimal}
-use Rattle.script_items.proofs.quick.natural.Given as goal
+use Rattle.script_items.proofs.short.natural.Given as goal
 
 -- the digits so far are those of a number that isn't 0 and isn't long
 abbrev pub invariant-loop-digit : goal.invariant-loop-digit
