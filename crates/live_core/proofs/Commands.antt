@@ -182,9 +182,9 @@ pages_steps hosts later m new entries next s parts pages = record {
   sound = subst (λ (x : Machine). IsSound hosts later x.world) (sym parts) s.sound;
 }
 
--- the same, where another list of events is kept
+-- the same, where other lists of events and of notes are kept
 pub steps_beside : (hosts : Hosts) (later : List HostPlace) (m new : Machine) (entries : List Entry) (next : plain.Told) →
-    Steps hosts later m entries next → new ≡ record m { events = new.events } → Steps hosts later new entries next
+    Steps hosts later m entries next → new ≡ record m { events = new.events; notes = new.notes } → Steps hosts later new entries next
 steps_beside hosts later m new entries next s beside = record {
   step = ap (λ (x : Machine). reached (plain_of later x) entries) beside ∙ s.step;
   sound = subst (λ (x : Machine). IsSound hosts later x.world) (sym beside) s.sound;
@@ -274,8 +274,8 @@ pub leaves_acted : (asked later : List HostPlace) (rules : ℕ) (m : Machine) (w
     weight w ≤ weight m.world + 2 ^ 80 → Leaves asked later rules m (with_world m w l j)
 leaves_acted asked later rules m w l j r keeps stays tables batch agrees ruled few = leaves_batched asked later rules m w l j m.batch r keeps stays tables batch agrees ruled few
 
--- so it is where another list of events is kept
-pub leaves_beside : (asked later : List HostPlace) (rules : ℕ) (old m new : Machine) → Leaves asked later rules old m → new ≡ record m { events = new.events } →
+-- so it is where other lists of events and of notes are kept
+pub leaves_beside : (asked later : List HostPlace) (rules : ℕ) (old m new : Machine) → Leaves asked later rules old m → new ≡ record m { events = new.events; notes = new.notes } →
     Leaves asked later rules old new
 leaves_beside asked later rules old m new l beside = subst (λ (x : Machine). Leaves asked later rules old x) (sym beside) (record {
   ready = record {

@@ -51,6 +51,7 @@ impl Machine {
             scripts: Vec::new(alloc),
             pages: Vec::new(alloc),
             events: Vec::new(alloc),
+            notes: Vec::new(alloc),
         })
     }
 

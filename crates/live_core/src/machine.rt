@@ -7,14 +7,15 @@ use live_names::Names;
 use live_pages::{LinkedTemplate, Mounted};
 use live_why::Recorder;
 use page_events::Handlers;
+use sig_computed::RunNote;
 use sig_effect::Event;
 use sig_state::Batch;
 use std::alloc::Global;
 
 /// What a script made: what its names stand for, what things are called, the signals, watchers, owners and effects, the batch that is
 /// open, the journal, once it was begun, the templates, the handlers of events with what each of them does, and the pages that live. Host
-/// formulas and equality rules stand beside it, and are handed to each act that needs them. The events of the last set stand in a list that
-/// is kept, so that the next set finds room for its own.
+/// formulas and equality rules stand beside it, and are handed to each act that needs them. The events of the last set and the
+/// notes of the last untraced get stand in lists that are kept, so that the next ones find room for theirs.
 #[derive(Drop)]
 pub struct Machine {
     pub alloc: Global,
@@ -28,4 +29,5 @@ pub struct Machine {
     pub scripts: Vec<Script>,
     pub pages: Vec<Mounted>,
     pub events: Vec<Event>,
+    pub notes: Vec<RunNote>,
 }

@@ -73,9 +73,9 @@ impl Machine {
         ensures memory { IfErr result (λ e. e ≡ fault.NoMemory) }
     {
         let signal = NodeId::of(number);
-        let mut notes = Vec::new(self.alloc);
-        let outcome = settled(&mut self.world, shelf, signal, &mut notes)?;
-        note_runs(&mut self.journal, &notes)?;
+        self.notes.clear();
+        let outcome = settled(&mut self.world, shelf, signal, &mut self.notes)?;
+        note_runs(&mut self.journal, &self.notes)?;
         Ok(Entry::Outcome(name, outcome))
     }
 }

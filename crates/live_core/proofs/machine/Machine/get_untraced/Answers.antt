@@ -13,7 +13,7 @@ use Rattle.live_model.specs.Names.{number_of}
 use Rattle.live_labels.specs.Views.{labels_of}
 use Rattle.live_labels.proofs.Shared.{told_by}
 use Rattle.live_core.proofs.Batched.{roomy_same}
-use Rattle.live_core.proofs.Commands.{acts_steps, leaves_acted, stays_by, then_told}
+use Rattle.live_core.proofs.Commands.{acts_steps, leaves_acted, leaves_beside, stays_by, steps_beside, then_told, with_world}
 use Rattle.live_core.proofs.LeftOut.{ran, traced_runs, untold_runs}
 use Rattle.live_core.proofs.machine.Machine.get_untraced.Goals as goal
 
@@ -29,13 +29,17 @@ returns-clause-did g c = λ slacks count.
         steps = λ hosts all sound.
             let env = environment hosts slacks in
             let n = c.of-signal.ensures ∙ c.requires.known in
-            then_told hosts _ (record m { world = c.settled.new.world; journal = c.note_runs.new.journal }) front (entry.Outcome c.args.name c.in_ok-outcome.outcome)
-            (entry.Outcome c.args.name (value_of hosts m.world.graph.state.signals (number_of m.names c.args.name) [])) (front ++ entry.Outcome c.args.name c.in_ok-outcome.outcome ∷ []) _
+            let beside = record m { world = c.settled.new.world; journal = c.note_runs.new.journal } in
+            let told : List Entry = front ++ entry.Outcome c.args.name c.in_ok-outcome.outcome ∷ [] in
+            steps_beside hosts _ beside _ told _
+            (then_told hosts _ beside front (entry.Outcome c.args.name c.in_ok-outcome.outcome)
+            (entry.Outcome c.args.name (value_of hosts m.world.graph.state.signals (number_of m.names c.args.name) [])) told _
             (acts_steps hosts _ _ m c.settled.new.world m.labels c.note_runs.new.journal [] (ran notes)
             (settle env (c.of-signal.result ∷ [])) (settle env (number_of m.names c.args.name ∷ [])) front
             refl (c.in_ok-outcome.ensures.settled.does hosts slacks all sound) (λ i. settle env (n i ∷ []))
             (untold_runs m.labels m.journal c.note_runs.new.journal notes (rw c.deref.ensures.value at c.in_ok-note_runs.ensures)))
             (ap (λ (o : Outcome). entry.Outcome c.args.name o) (c.in_ok-outcome.ensures.value hosts all sound ∙ ap (λ (i : ℕ). value_of hosts m.world.graph.state.signals i []) n))
+            refl)
             refl;
         leaves = λ hosts all sound.
             let tables = c.in_ok-outcome.ensures.tables in
@@ -45,11 +49,13 @@ returns-clause-did g c = λ slacks count.
             let worn = e.worn in
             let small = c.settled.new.notes.small in
             let made = ap (λ t. t.effects_made) tables in
-            leaves_acted _ _ count m c.settled.new.world m.labels c.note_runs.new.journal c.requires.can.ready (record { signals = refl; owners = refl; pages = refl; watchers = refl })
+            leaves_beside _ _ count m (with_world m c.settled.new.world m.labels c.note_runs.new.journal) _
+            (leaves_acted _ _ count m c.settled.new.world m.labels c.note_runs.new.journal c.requires.can.ready (record { signals = refl; owners = refl; pages = refl; watchers = refl })
             (stays_by _ _ m.world c.settled.new.world (settle env (c.of-signal.result ∷ [])) (e.does hosts [] all sound).whole
             (all_keep_counts.settling env (c.of-signal.result ∷ [])) (all_keep_kinds.settling env (c.of-signal.result ∷ [])))
             tables (roomy_same m.world.graph.state.signals c.settled.new.world.graph.state.signals m.batch e.signals c.requires.can.ready.batch) (λ a. e.agrees)
-            (λ r. subst (AreRuled count) (sym e.signals) r) (omega (arith, worn, many, small, made));
+            (λ r. subst (AreRuled count) (sym e.signals) r) (omega (arith, worn, many, small, made)))
+            refl;
         answers = c.in_ok-outcome.ensures.settled.answers;
         counted = c.in_ok-outcome.ensures.counted;
         most = let a = c.in_ok-outcome.ensures.settled.most in let many = length-map notes event.Run in let d = c.settled.new.notes.small in omega (arith, a, many, d);
