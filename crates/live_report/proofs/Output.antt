@@ -3,15 +3,18 @@ use Rattle.std.proofs.Common.{◌≡◌, ◌&&◌, ℕ, Bool, true, false, not, 
 use Rattle.std.proofs.lemmas.List.Concat.{flat_map-append}
 use Rattle.bench_workload.specs.Summary.{summary_text}
 use Rattle.bench_workload.specs.declared.summary.Counts.{Counts}
+use Rattle.live_cmd.specs.declared.command.Command.{Command}
 use Rattle.live_cmd.specs.declared.command.Item.{Item}
+use Rattle.live_cmd.specs.declared.command.Item.TheVariants as item
 use Rattle.live_entries.specs.declared.entry.Entry.{Entry}
 use Rattle.live_entries.specs.Printed.{line_of_entry, printed, AreTraced}
 use Rattle.live_words.specs.declared.jobs.ScriptJob.TheVariants as job
 use Rattle.wire_model.specs.Notes.{Note, frame, frames}
 use Rattle.wire_model.specs.Wired.{Wires, notes_of, wired_from, wires_after}
 use Rattle.page_wire.specs.Telling.{wires_behind}
-use Rattle.live_report.specs.Counts.{added, counts_of, page_after}
+use Rattle.live_report.specs.Counts.{added, counts_of, is_command, page_after}
 use Rattle.live_report.specs.Reports.{output_of, still}
+use Rattle.live_report.specs.declared.report.Report.{Report}
 use Rattle.live_report.specs.declared.report.Report.TheVariants as report
 use Rattle.live_report.proofs.Sums.{added_none, counts_more, none_added, page_more}
 
@@ -21,6 +24,20 @@ unfolding still
 summary_begun n counts page e f is es =
     ap (λ t. summary_text n t (page_after page es)) (ap (λ t. added t (counts_of is es)) e ∙ none_added (counts_of is es))
     ∙ ap (λ p. summary_text n (counts_of is es) (page_after p es)) f
+
+-- a refused item isn't counted
+pub refused_untold : (r : Report) (i : Item) → is_command i ≡ false → (is : List Item) (es : List Entry) → still r is es ≡ still r (i ∷ is) es
+unfolding still counts_of
+refused_untold r (item.Do c) e is es = absurd cc
+refused_untold (report.Lines trace) (item.Refused f) e is es = refl
+refused_untold (report.Summary n counts page) (item.Refused f) e is es = refl
+refused_untold (report.Frames told) (item.Refused f) e is es = refl
+
+-- what holds of any command holds of an item that is one
+pub command_taken : (r after : Report) (i : Item) → is_command i ≡ true → ((c : Command) (is : List Item) (es : List Entry) → still after is es ≡ still r (item.Do c ∷ is) es) →
+    (is : List Item) (es : List Entry) → still after is es ≡ still r (i ∷ is) es
+command_taken r after (item.Do c) e h = h c
+command_taken r after (item.Refused f) e h = absurd cc
 
 -- one more item
 pub summary_item : (n : ℕ) (counts next : Counts) (page : List ℕ) (i : Item) → next ≡ added counts (counts_of (i ∷ []) []) → (is : List Item) (es : List Entry) → still (report.Summary n next page) is es ≡ still (report.Summary n counts page) (i ∷ is) es

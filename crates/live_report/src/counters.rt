@@ -1,6 +1,8 @@
 // Counting items and entries as they come.
 ghost use Rattle.std.specs.Prelude.{◌≡◌, ◌≤◌, ◌+◌, ◌<◌, ◌^◌, [], ◌∷◌, OnOk, if◌then◌else◌};
 ghost use Rattle.std.specs.List.{count_by};
+ghost use Rattle.live_cmd.specs.declared.command.Command.{Command};
+ghost use Rattle.live_cmd.specs.declared.command.Item.TheVariants as item;
 ghost use Rattle.live_report.specs.Counts.{added, counts_of, is_command, is_op, is_run, page_after, page_with};
 
 use bench_workload::Counts;
@@ -8,14 +10,11 @@ use live_cmd::Item;
 use live_entries::{Entry, PageBytes};
 use sig_base::NoMemory;
 
-// 1 for a command, a block too, and 0 for what is refused.
-fn command_count(item: &Item) -> u128
-    ensures { result ≡ (if is_command item.now then 1 else 0) }
+/// Whether an item is a command. A block is one.
+pub fn is_command(item: &Item) -> bool
+    ensures { result ≡ is_command item.now }
 {
-    match item {
-        Item::Do(_) => 1,
-        Item::Refused(_) => 0,
-    }
+    matches!(item, Item::Do(_))
 }
 
 // 1 for a run of a computed, and 0 for every other entry.
@@ -72,14 +71,14 @@ pub fn no_counts() -> Counts
     }
 }
 
-/// An item is counted too.
-pub fn with_item(counts: Counts, item: &Item) -> Counts
+/// One more command is counted, whichever it is.
+pub fn with_command(counts: Counts) -> Counts
     requires { counts.commands < 2 ^ 127 }
-    ensures many { result ≡ added counts (counts_of (item.now ∷ []) []) }
+    ensures many { (c : Command) → result ≡ added counts (counts_of (item.Do c ∷ []) []) }
     ensures few { result.commands + (result.runs + result.ops) ≤ counts.commands + (counts.runs + counts.ops) + 1 }
 {
     Counts {
-        commands: counts.commands + command_count(item),
+        commands: counts.commands + 1,
         runs: counts.runs,
         ops: counts.ops,
     }

@@ -1,12 +1,14 @@
 // How a job reports what the items of a script come to.
 ghost use Rattle.std.specs.Prelude.{◌≡◌, ◌≤◌, ◌<◌, ◌+◌, ◌^◌, ◌++◌, List, [], ◌∷◌, true, IfOk, OnOk, flat_map};
 ghost use Rattle.std.specs.List.{AllByRecursion};
+ghost use Rattle.live_cmd.specs.declared.command.Command.{Command};
 ghost use Rattle.live_cmd.specs.declared.command.Item.{Item as AnItem};
+ghost use Rattle.live_cmd.specs.declared.command.Item.TheVariants as item;
 ghost use Rattle.live_entries.specs.declared.entry.Entry.{Entry as AnEntry};
 ghost use Rattle.live_entries.specs.Printed.{printed, AreTraced, IsSizedEntry};
 ghost use Rattle.live_report.specs.Reports.{counted, output_of, still};
 
-use crate::counters::{no_counts, turn_page, with_entries, with_item};
+use crate::counters::{is_command, no_counts, turn_page, with_command, with_entries};
 use bench_workload::{Counts, put_summary};
 use live_cmd::Item;
 use live_entries::{Entry, PageBytes, entry_line};
@@ -92,21 +94,33 @@ impl Report {
         }
     }
 
-    /// Takes in one more item, before what it tells is known.
+    /// Takes in one more command, before what it tells is known. Nothing is asked of it, for it is only counted.
     #[tactic(auto, unfolding(crate::specs::Reports::still, crate::specs::Reports::counted))]
+    pub fn take_command(&mut self)
+        requires { counted self.old < 2 ^ 127 }
+        ensures prints { (c : Command) (is : List AnItem) (es : List AnEntry) → still self.new is es ≡ still self.old (item.Do c ∷ is) es }
+        ensures counted { counted self.new ≤ counted self.old + 1 }
+    {
+        match self {
+            Report::Lines { .. } => {}
+            Report::Summary { counts, .. } => *counts = with_command(*counts),
+            Report::Frames { .. } => {}
+        }
+    }
+
+    /// Takes in one more item, before what it tells is known.
     pub fn take_item(&mut self, item: &Item)
         requires { counted self.old < 2 ^ 127 }
         ensures prints { (is : List AnItem) (es : List AnEntry) → still self.new is es ≡ still self.old (item.now ∷ is) es }
         ensures counted { counted self.new ≤ counted self.old + 1 }
     {
-        match self {
-            Report::Lines { .. } => {}
-            Report::Summary { counts, .. } => *counts = with_item(*counts, item),
-            Report::Frames { .. } => {}
+        if !is_command(item) {
+            return;
         }
+        self.take_command();
     }
 
-    /// Takes in what an item told. Lines or frames that are printed of it now are appended.
+    /// Takes in what an item told. Lines or frames that are printed of it now are appended. What told nothing is taken in at once.
     ///
     /// # Errors
     ///
@@ -118,6 +132,9 @@ impl Report {
         ensures sized { OnOk result (AllByRecursion IsSizedEntry entries.now) }
         ensures counted { OnOk result (counted self.new ≤ counted self.old + 2 ^ 64) }
     {
+        if entries.is_empty() {
+            return Ok(());
+        }
         match self {
             Report::Lines { trace } => {
                 put_entries(out, entries, *trace)?;
