@@ -13,7 +13,7 @@ ghost use Rattle.live_model.specs.Machine.{empty};
 ghost use Rattle.live_core.specs.Consistency.{IsReadItem, SomeHosts};
 ghost use Rattle.live_run.specs.Jobs.{DidItem, DidNext};
 
-use live_cmd::Item;
+use live_cmd::{Command, Item, Verb};
 use live_items::{Live, Running};
 use live_report::Report;
 use live_words::ScriptJob;
@@ -97,8 +97,8 @@ impl ScriptRun {
         Ok(())
     }
 
-    // Does what scripts say most, with the clauses of an item. Where the report takes in nothing of an item but what it tells, no item is made of it, and no list
-    // of the one entry of a `get`.
+    // Does what scripts say most, with the clauses of an item. No item is made of a `set`, which is only counted, nor of a `get` where the report
+    // takes in nothing of an item but what it tells, and then no list of its one entry either.
     fn do_brief(&mut self, brief: Brief) -> Result<(), NoMemory>
         requires kept { ⟦<Live as Running>⟧.kept self.old.live }
         requires meant { self.old.live.broken ≡ false → SomeHosts (λ hosts. ⟦<Shelf as Lent>⟧.answers hosts self.old.live.shelf × ⟦<Live as Running>⟧.sound hosts self.old.live) }
@@ -115,17 +115,19 @@ impl ScriptRun {
         ensures done { OnOk result (self.new.live.done ≡ self.old.live.done + 1) }
         ensures little { OnOk result (counted self.new.report ≤ counted self.old.report + (1 + 2 ^ 64)) }
     {
-        if !self.report.is_untraced() {
-            return self.do_item(brief.item());
-        }
         match brief {
             Brief::Get(name) => {
+                if !self.report.is_untraced() {
+                    let verb = Verb::Get;
+                    return self.do_item(Item::Do(Command::Named { verb, name }));
+                }
                 let told = self.live.get(name)?;
                 self.report
                     .take_entries(&mut self.out, slice::from_ref(&told))?;
                 Ok(())
             }
             Brief::Set(name, value) => {
+                self.report.take_command();
                 let told = self.live.set(name, value)?;
                 self.report.take_entries(&mut self.out, &told)?;
                 Ok(())

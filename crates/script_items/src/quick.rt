@@ -6,7 +6,6 @@ ghost use Rattle.script_items.specs.Briefs.{brief_item, IsFront};
 use crate::common::{behind_word, parted};
 use crate::known::KnownNames;
 use crate::short::short;
-use live_cmd::{Command, Item, Verb};
 use sig_base::{MOST_LINE, Name, NoMemory, Scalar};
 
 /// What scripts say most.
@@ -16,21 +15,6 @@ pub enum Brief {
     Get(Name),
     /// `set N LIT`
     Set(Name, Scalar),
-}
-
-impl Brief {
-    /// The item that it is.
-    pub fn item(self) -> Item
-        ensures { result ≡ brief_item self }
-    {
-        match self {
-            Brief::Get(name) => {
-                let verb = Verb::Get;
-                Item::Do(Command::Named { verb, name })
-            }
-            Brief::Set(name, value) => Item::Do(Command::Set { name, value }),
-        }
-    }
 }
 
 // `get N`, behind the word and a blank, and how many bytes stand behind its LF.

@@ -1,26 +1,14 @@
-use Rattle.std.proofs.Common.{List, ◌∷◌, [], ◌++◌, ℕ, ap, sym, ◌∙◌, subst, append_assoc}
-use Rattle.script_items.specs.Briefs.{brief_item}
+use Rattle.std.proofs.Common.{List, ◌∷◌, [], ◌++◌, ℕ, ap, sym, ◌∙◌, append_assoc}
 use Rattle.live_cmd.specs.declared.command.Command.TheVariants as command
 use Rattle.live_cmd.specs.declared.command.Item.TheVariants as item
 use Rattle.live_cmd.specs.declared.command.Verb.TheVariants as verb
-use Rattle.script_items.specs.declared.quick.Brief.{Brief}
-use Rattle.script_items.specs.declared.quick.Brief.TheVariants as brief
-use Rattle.live_core.specs.Consistency.{IsReadItem}
 use Rattle.live_entries.specs.declared.entry.Entry.{Entry}
 use Rattle.live_report.specs.Reports.{still}
 use Rattle.live_run.proofs.LeftOut.{sized_behind}
 use Rattle.live_run.proofs.script_run.ScriptRun.do_brief.Goals as goal
 
--- it is an item that can be read
-brief_read : (b : Brief) → IsReadItem (brief_item b)
-brief_read (brief.Get n) = tt
-brief_read (brief.Set n v) = tt
-
-pub do_item-requires-clause-read : goal.do_item-requires-clause-read
-do_item-requires-clause-read g c = subst IsReadItem (sym c.item.ensures) (brief_read c.args.brief)
-
 pub returns-then-not-is_untraced-clause-did : goal.returns-then-not-is_untraced-clause-did
-returns-then-not-is_untraced-clause-did g c = λ hosts all sound. rw c.item.ensures at (c.do_item.ensures.did hosts all sound)
+returns-then-not-is_untraced-clause-did g c = λ hosts all sound. rw c.in-Get.is (c.do_item.ensures.did hosts all sound)
 
 pub returns-in_ok-take_entries-in-Get-clause-did : goal.returns-in_ok-take_entries-in-Get-clause-did
 returns-in_ok-take_entries-in-Get-clause-did g c = λ hosts all sound.
@@ -49,7 +37,6 @@ pub returns-in_ok-take_entries-in-Set-clause-did : goal.returns-in_ok-take_entri
 returns-in_ok-take_entries-in-Set-clause-did g c = λ hosts all sound.
     let s = c.in_ok-told-in-Set.ensures.step hosts all sound in
     let es : List Entry = c.in_ok-told-in-Set.told.items in
-    let plain = c.is_untraced.ensures in
     rw c.in-Set.is (
       record {
         entries = es;
@@ -57,8 +44,7 @@ returns-in_ok-take_entries-in-Set-clause-did g c = λ hosts all sound.
         sized = rw c.deref.ensures.value at c.in_ok-take_entries-in-Set.ensures.sized;
         took = λ is fs.
             (rw c.deref.ensures.value at c.in_ok-take_entries-in-Set.ensures.prints is fs)
-            ∙ ap (λ (l : List ℕ). c.args.self.now.out.items ++ l)
-            (sym (plain.items c.if-not-is_untraced.false (item.Do (command.Set c.in-Set.name c.in-Set.value)) is (es ++ fs)));
+            ∙ ap (λ (l : List ℕ). c.args.self.now.out.items ++ l) (c.take_command.ensures.prints (command.Set c.in-Set.name c.in-Set.value) is (es ++ fs));
       },
       s.1,
       s.2,
