@@ -32,6 +32,7 @@ fn note_event(recorder: &mut Recorder, event: &Event) -> Result<(), NoMemory>
 }
 
 // Notes events, one by one.
+#[inline(never)]
 fn note_events(recorder: &mut Recorder, events: &[Event]) -> Result<(), NoMemory>
     ensures { (ts : List plain.Event) → AreTold events.now ts → OnOk result (recorder.new ≡ with_facts (facts_told ts) recorder.old) }
 {

@@ -42,6 +42,20 @@ pub fn append(told: &mut Vec<Entry>, more: Vec<Entry>) -> Result<(), NoMemory>
     Ok(())
 }
 
+/// Puts an entry behind others. It asks for room first, so that the entry is put there at once.
+///
+/// # Errors
+///
+/// `NoMemory` where memory ran out.
+#[inline(always)]
+pub fn put_entry(told: &mut Vec<Entry>, entry: Entry) -> Result<(), NoMemory>
+    ensures { OnOk result (told.new.items ≡ told.old.items ++ entry ∷ []) }
+{
+    told.reserve(1)?;
+    told.push_reserved(entry);
+    Ok(())
+}
+
 // What is told of a run.
 fn run_entry(alloc: Global, names: &[Name], note: &RunNote) -> Result<Entry, NoMemory>
     ensures { IfOk result (λ e. e ≡ note_entry names.now (note_of note.now)) }
@@ -57,14 +71,25 @@ fn put_run(told: &mut Vec<Entry>, names: &[Name], note: &RunNote) -> Result<(), 
     ensures { OnOk result (told.new.items ≡ told.old.items ++ note_entry names.now (note_of note.now) ∷ []) }
 {
     let entry = run_entry(*told.allocator(), names, note)?;
-    told.push(entry)?;
+    put_entry(told, entry)?;
     Ok(())
+}
+
+// Room for what is told of runs, and for two entries behind it; none where there is no run.
+fn room_behind(notes: &[RunNote]) -> usize
+    ensures { result ≤ length notes.now + 2 }
+{
+    match notes {
+        [] => 0,
+        _ => notes.len() + 2,
+    }
 }
 
 // Puts what is told of runs behind what was told.
 fn put_runs(told: &mut Vec<Entry>, names: &[Name], notes: &[RunNote]) -> Result<(), NoMemory>
     ensures { OnOk result (told.new.items ≡ told.old.items ++ map (note_entry names.now) (map note_of notes.now)) }
 {
+    told.reserve(room_behind(notes))?;
     for note in notes {
         put_run(told, names, note)?;
     }
@@ -243,7 +268,7 @@ fn put_some(told: &mut Vec<Entry>, entry: Option<Entry>) -> Result<(), NoMemory>
 {
     match entry {
         Some(entry) => {
-            told.push(entry)?;
+            put_entry(told, entry)?;
             Ok(())
         }
         None => Ok(()),
@@ -283,30 +308,22 @@ fn tell_one(told: &mut Vec<Entry>, labels: &mut Labels, event: &Event) -> Result
     }
 }
 
-// Room for what is told of events, and for one entry behind it; none where there is no event, or one of which nothing is told.
-fn room_for(events: &[Event]) -> usize
-    ensures { result ≤ length events.now + 1 }
-{
-    match events {
-        [] | [Event::Change(..)] => 0,
-        _ => events.len() + 1,
-    }
-}
-
-// Tells of events, one by one, each by the labels of its moment.
+// Tells of events, one by one, each by the labels of its moment. There is room for one entry behind what is told of them.
+#[inline(never)]
 fn tell_each(alloc: Global, labels: &mut Labels, events: &[Event]) -> Result<Vec<Entry>, NoMemory>
     ensures entries { (ts : List plain.Event) → AreTold events.now ts → IfOk result (λ es. es.items ≡ entries_of (labels_of labels.old) ts) }
     ensures labels { (ts : List plain.Event) → AreTold events.now ts → OnOk result (labels_of labels.new ≡ labels_after ts (labels_of labels.old)) }
     ensures names { OnOk result (KeepsNames labels.old labels.new) }
 {
-    let mut told = Vec::with_capacity(alloc, room_for(events))?;
+    let mut told = Vec::with_capacity(alloc, events.len() + 1)?;
     for event in events {
         tell_one(&mut told, labels, event)?;
     }
     Ok(told)
 }
 
-/// Tells of events, one by one, each by the labels of its moment, and notes them, if a journal was begun.
+/// Tells of events, one by one, each by the labels of its moment, and notes them, if a journal was begun. Mostly there is none, or one change,
+/// of which nothing is told.
 ///
 /// # Errors
 ///
@@ -323,6 +340,12 @@ pub fn tell_all(
     ensures names { OnOk result (KeepsNames labels.old labels.new) }
 {
     note_all(journal, events)?;
-    let told = tell_each(alloc, labels, events)?;
-    Ok(told)
+    match events {
+        [] => Ok(Vec::new(alloc)),
+        [Event::Change(..)] => Ok(Vec::new(alloc)),
+        _ => {
+            let told = tell_each(alloc, labels, events)?;
+            Ok(told)
+        }
+    }
 }
