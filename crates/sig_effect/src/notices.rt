@@ -23,11 +23,13 @@ pub fn tell_runs(events: &mut Vec<Event>, notes: Vec<RunNote>) -> Result<(), NoM
     Ok(())
 }
 
-/// Tells that a signal was changed.
+/// Tells that a signal was changed. It asks for room first, so that the event is put there at once.
+#[inline(always)]
 pub fn tell_change(events: &mut Vec<Event>, id: NodeId, how: How) -> Result<(), NoMemory>
     ensures { OnOk result (events.new.items ≡ events.old.items ++ event.Change id how ∷ []) }
 {
-    events.push(Event::Change(id, how))?;
+    events.reserve(1)?;
+    events.push_reserved(Event::Change(id, how));
     Ok(())
 }
 
@@ -94,8 +96,9 @@ fn refused_of(alloc: Global, told: &[Told]) -> Result<Vec<WatcherId>, NoMemory>
     Ok(refused)
 }
 
-/// Tells of the watchers that were notified, in order, and then of those among them whose try was refused.
-pub fn tell_notified(events: &mut Vec<Event>, told: &[Told]) -> Result<(), NoMemory>
+// Tells of the watchers that were notified, in order, and then of those among them whose try was refused, as `tell_notified` does.
+#[inline(never)]
+fn tell_some(events: &mut Vec<Event>, told: &[Told]) -> Result<(), NoMemory>
     ensures { OnOk result (AreNotices told.now events.old.items events.new.items) }
 {
     tell_each(events, told)?;
@@ -105,4 +108,18 @@ pub fn tell_notified(events: &mut Vec<Event>, told: &[Told]) -> Result<(), NoMem
     }
     events.push(Event::Frozen(refused))?;
     Ok(())
+}
+
+/// Tells of the watchers that were notified, in order, and then of those among them whose try was refused. Mostly there is none.
+#[inline(always)]
+pub fn tell_notified(events: &mut Vec<Event>, told: &[Told]) -> Result<(), NoMemory>
+    ensures { OnOk result (AreNotices told.now events.old.items events.new.items) }
+{
+    match told {
+        [] => Ok(()),
+        _ => {
+            tell_some(events, told)?;
+            Ok(())
+        }
+    }
 }
