@@ -14,8 +14,8 @@ use std::alloc::Global;
 
 /// What a script made: what its names stand for, what things are called, the signals, watchers, owners and effects, the batch that is
 /// open, the journal, once it was begun, the templates, the handlers of events with what each of them does, and the pages that live. Host
-/// formulas and equality rules stand beside it, and are handed to each act that needs them. The events of the last set and the
-/// notes of the last untraced get stand in lists that are kept, so that the next ones find room for theirs.
+/// formulas and equality rules stand beside it, and are handed to each act that needs them. The events of the last set stand in a list that
+/// is kept, so that the next set finds room for its own; so is the list in which an untraced get notes runs, which go once they are noted.
 #[derive(Drop)]
 pub struct Machine {
     pub alloc: Global,

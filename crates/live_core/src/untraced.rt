@@ -76,6 +76,7 @@ impl Machine {
         self.notes.clear();
         let outcome = settled(&mut self.world, shelf, signal, &mut self.notes)?;
         note_runs(&mut self.journal, &self.notes)?;
+        self.notes.clear();
         Ok(Entry::Outcome(name, outcome))
     }
 }
