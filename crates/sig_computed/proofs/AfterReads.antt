@@ -1,23 +1,29 @@
 -- What holds of the frames and of the loop once the innermost frame has read on.
-use Rattle.std.proofs.Common.{◌≡◌, ℕ, ◌+◌, ◌≤◌, Bool, true, false, cond, List, [], ◌∷◌, map, length, None, refl, sym, ap, ◌∙◌, subst, arith, inl, inr}
+use Rattle.std.proofs.Common.{◌≡◌, ℕ, suc, ◌+◌, ◌≤◌, Bool, true, false, cond, List, [], ◌∷◌, append_assoc, append-nil, map, length, None, refl, sym, ap, ◌∙◌, subst, arith, inl, inr}
 use Rattle.sig_base.specs.declared.value.Step.{Step}
+use Rattle.sig_base.specs.declared.value.Value.TheVariants.{Bool as truth}
+use Rattle.sig_base.specs.declared.value.Known.{Known}
 use Rattle.sig_formula.specs.Evaluation.{step_by}
-use Rattle.signal_model.specs.Recipes.{Hosts}
+use Rattle.signal_model.specs.Recipes.{Hosts, IsUnknownSlot}
 use Rattle.signal_model.specs.Signals.{Signals, Stands, IsGone, IsCell, IsComputed, standing}
-use Rattle.signal_model.specs.Values.{unknown_slots}
+use Rattle.signal_model.specs.Values.{learnt, unknown_slots}
 use Rattle.signal_model.specs.Memos.{Memos}
 use Rattle.signal_model.specs.Kept.{AreKept}
 use Rattle.signal_model.specs.Asks.{asks_host, good_reads}
+use Rattle.signal_model.proofs.Shared.{unknown_less}
 use Rattle.sig_host.specs.Hosts.{HostPlace}
 use Rattle.sig_nodes.specs.declared.answers.Asked.TheVariants.{Ended}
 use Rattle.sig_nodes.specs.Answers.{host_here, slots_here}
-use Rattle.sig_graph.specs.Reading.{SlotRead}
+use Rattle.sig_graph.specs.Reading.{SlotRead, AreReadNext}
 use Rattle.sig_graph.specs.States as states
 use Rattle.sig_graph.specs.States.{Progress, State}
+use Rattle.sig_computed.specs.declared.frames.Doing.{Doing}
+use Rattle.sig_computed.specs.declared.frames.Doing.TheVariants as doing
 use Rattle.sig_computed.specs.declared.frames.Open.{Open}
 use Rattle.sig_computed.specs.Asked.{places_by}
+use Rattle.sig_computed.specs.Lessons.{Lesson}
 use Rattle.sig_computed.specs.Notes.{Note}
-use Rattle.sig_computed.specs.Reading.{known_after, phase_after, reads_after, CanRead, HasEnded, HasGoneOn, HasTurned}
+use Rattle.sig_computed.specs.Reading.{known_after, phase_after, read_steps, reads_after, seen_of, CanRead, HasEnded, HasGoneOn, HasTurned, IsLearntBy, IsTold}
 use Rattle.sig_computed.specs.Skips.{passed_over}
 use Rattle.sig_computed.specs.StepLaws.{left_here}
 use Rattle.sig_computed.specs.Steps.{Phase, Looking, LookedAt, Running, Waiting, Frame, Move, GoesOn, Needs, Stops, Ends, answered}
@@ -25,11 +31,12 @@ use Rattle.sig_computed.specs.Turns.{move_by, move_reads, phase_reads, progress_
 use Rattle.sig_computed.specs.Views.{evaluating, evaluation_of, phase_of, Stays}
 use Rattle.sig_computed.proofs.Asks.{phase_asked, HasAsked}
 use Rattle.sig_computed.proofs.Leaves.{end_answer, ended_judged, ended_move, unasked}
-use Rattle.sig_computed.proofs.Looks.{evaluating_stays}
+use Rattle.sig_computed.proofs.Looks.{evaluating_stays, stays_here}
 use Rattle.sig_computed.proofs.Loops.{IsTurn}
 use Rattle.sig_computed.proofs.Measure.{work, work_left}
-use Rattle.sig_computed.proofs.SlotReads.{reads_good, reads_unknown, reads_whole}
+use Rattle.sig_computed.proofs.SlotReads.{reads_good, reads_unknown, reads_whole, waited_unknown, waited_whole}
 use Rattle.sig_computed.proofs.Stacks.{HasStack, fits_stays, frames_are, given_stays, known_more, stack_stays}
+use Rattle.sig_computed.proofs.StepsEnd.{unknown_any}
 use Rattle.sig_computed.proofs.Wholes.{IsWhole}
 
 -- the graph, where so many steps more were counted
@@ -47,7 +54,26 @@ fits_on : (g : states.Seen) (n : ℕ) (p : Phase) (more : List SlotRead) → Fit
     AreReadsGiven g (phase_reads (phase_after p more)) → Fits g (record { name = n; phase = phase_after p more })
 fits_on g n (Looking place) more fit can given = fit
 fits_on g n (LookedAt place) more fit can given = fit
-fits_on g n (Waiting slot known reads) more fit can given = fit
+fits_on g n (Waiting slot known reads) [] fit can given = fit
+fits_on g n (Waiting slot known reads) (r ∷ rs) fit can given =
+    let count : ℕ = length fit.computed.recipe.slots in
+    let unknown : unknown_slots count (known_after known (r ∷ rs)) + length rs ≡ unknown_slots count (learnt known r.known.slot r.known.value) =
+    subst (λ (st : Stands). unknown_slots (length (slots_here st)) (known_after known (r ∷ rs)) + length rs
+    ≡ unknown_slots (length (slots_here st)) (learnt known r.known.slot r.known.value)) fit.stands (waited_unknown g.state n known r rs can.3) in
+    let less : unknown_slots count known ≡ suc (unknown_slots count (learnt known r.known.slot r.known.value)) =
+    unknown_less count r.known.slot r.known.value known (subst (λ m. IsUnknownSlot count m known) (sym can.1) fit.slot) in
+    let good : good_reads (reads_after reads (r ∷ rs)) ≡ good_reads reads + length (r ∷ rs) = reads_good reads (r ∷ rs) in
+    let few : good_reads reads + unknown_slots count known ≤ count = fit.few in
+    record {
+      computed = fit.computed;
+      stands = fit.stands;
+      earlier = fit.earlier;
+      begun = fit.begun;
+      known = known_more fit.earlier known (map (λ (q : SlotRead). q.known) (r ∷ rs)) fit.known;
+      slot = tt;
+      few = omega (arith, unknown, less, good, few);
+      given = given;
+    }
 fits_on g n (Running known reads) more fit can given =
     let unknown : unknown_slots (length fit.computed.recipe.slots) (known_after known more) + length more ≡ unknown_slots (length fit.computed.recipe.slots) known =
     subst (λ (st : Stands). unknown_slots (length (slots_here st)) (known_after known more) + length more ≡ unknown_slots (length (slots_here st)) known)
@@ -92,7 +118,10 @@ asked_more : (p : Phase) (more : List SlotRead) → phase_asked p ≤ phase_aske
 asked_more (Looking place) more = omega arith
 asked_more (LookedAt place) more = omega arith
 asked_more (Running known reads) more = let e : good_reads (reads_after reads more) ≡ good_reads reads + length more = reads_good reads more in omega (arith, e)
-asked_more (Waiting slot known reads) more = omega arith
+asked_more (Waiting slot known reads) [] = omega arith
+asked_more (Waiting slot known reads) (r ∷ rs) =
+    let e : good_reads (reads_after reads (r ∷ rs)) ≡ good_reads reads + length (r ∷ rs) = reads_good reads (r ∷ rs) in
+    omega (arith, e)
 
 -- what is known of the places
 pub asked_on : (w : Signals) (old new : List HostPlace) (before after : ℕ) (f : Frame) (rest : List Frame) (more : List SlotRead) →
@@ -111,18 +140,30 @@ asked_on w old new before after f rest more h = record {
     by false = omega arith
 
 -- the asks of the turn are those of the phase before
-pub places_on : (st : Stands) (p : Phase) (more : List SlotRead) (asked : List HostPlace) → places_by st p asked ≡ places_by st (phase_after p more) asked
-places_on st (Looking place) more asked = refl
-places_on st (LookedAt place) more asked = refl
-places_on st (Running known reads) more asked = refl
-places_on st (Waiting slot known reads) more asked = refl
+pub places_on : (s : State) (n : ℕ) (p : Phase) (more : List SlotRead) (asked : List HostPlace) → CanRead s n p more →
+    places_by (standing s.signals n) p asked ≡ places_by (standing s.signals n) (phase_after p more) asked
+places_on s n (Looking place) more asked can = refl
+places_on s n (LookedAt place) more asked can = refl
+places_on s n (Running known reads) more asked can = refl
+places_on s n (Waiting slot known reads) [] asked can = refl
+places_on s n (Waiting slot known reads) (r ∷ rs) asked can = unasked (host_here (standing s.signals n)) asked can.0
 
 -- what a frame has left
 left_on : (k : Memos) (s : State) (n : ℕ) (p : Phase) (more : List SlotRead) → CanRead s n p more →
     left_here k n (phase_after p more) (standing s.signals n) ≤ left_here k n p (standing s.signals n)
 left_on k s n (Looking place) more can = omega arith
 left_on k s n (LookedAt place) more can = omega arith
-left_on k s n (Waiting slot known reads) more can = omega arith
+left_on k s n (Waiting slot known reads) [] can = omega arith
+left_on k s n (Waiting slot known reads) (r ∷ rs) can =
+    subst (λ m. left_here k n (Running (known_after known (r ∷ rs)) (reads_after reads (r ∷ rs))) (standing s.signals n)
+    ≤ left_here k n (Waiting m known reads) (standing s.signals n)) can.1 (go (standing s.signals n) (waited_unknown s n known r rs can.3))
+  where
+    go : (st : Stands) → unknown_slots (length (slots_here st)) (known_after known (r ∷ rs)) + length rs
+        ≡ unknown_slots (length (slots_here st)) (learnt known r.known.slot r.known.value) →
+        left_here k n (Running (known_after known (r ∷ rs)) (reads_after reads (r ∷ rs))) st ≤ left_here k n (Waiting r.known.slot known reads) st
+    go IsGone e = omega arith
+    go (IsCell c) e = omega arith
+    go (IsComputed c) e = let any = unknown_any (length c.recipe.slots) r.known.slot r.known.value (truth true) known in omega (arith, e, any)
 left_on k s n (Running known reads) more can = go (standing s.signals n) (reads_unknown s n known more can)
   where
     go : (st : Stands) → unknown_slots (length (slots_here st)) (known_after known more) + length more ≡ unknown_slots (length (slots_here st)) known →
@@ -151,31 +192,73 @@ module _ (start g : states.Seen) (f : Frame) (rest : List Frame) (visited : List
   none_whole : (p : Phase) → more ≡ [] → WholeBy g.state.looked p → WholeBy (g.state.looked + length more) p
   none_whole p e x = let n : length more ≡ 0 = ap length e in subst (λ steps. WholeBy steps p) (omega (arith, n)) x
 
-  phase_whole : (p : Phase) → CanRead g.state f.name p more → WholeBy g.state.looked p → WholeBy (g.state.looked + length more) (phase_after p more)
+  phase_whole : (p : Phase) → CanRead g.state f.name p more → WholeBy g.state.looked p → WholeBy (g.state.looked + read_steps p more) (phase_after p more)
   phase_whole (Looking place) e x = none_whole (Looking place) e x
   phase_whole (LookedAt place) e x = none_whole (LookedAt place) e x
-  phase_whole (Waiting slot known reads) e x = none_whole (Waiting slot known reads) e x
+  phase_whole (Waiting slot known reads) all x =
+      waited_whole hosts start g same k0 kept0 steps0 places0 places asked before after visited rest f.name stack.fits.0.computed
+      (ap (λ w. standing w f.name) (sym same) ∙ stack.fits.0.stands) (frames_are g (f ∷ rest) stack) g.state.looked slot known reads more all x
   phase_whole (Running known reads) all x =
       reads_whole hosts start g same k0 kept0 steps0 places0 places asked before after visited rest f.name stack.fits.0.computed
       (ap (λ w. standing w f.name) (sym same) ∙ stack.fits.0.stands) (frames_are g (f ∷ rest) stack) g.state.looked known reads more all x
 
   -- the whole stays the whole
   pub whole_on : IsWhole hosts start.state.signals k0 kept0 steps0 places0 asked g.state.memos g.state.looked places before after visited (f ∷ rest) →
-      IsWhole hosts start.state.signals k0 kept0 steps0 places0 asked g.state.memos (g.state.looked + length more) places before after visited (frame_on f more ∷ rest)
+      IsWhole hosts start.state.signals k0 kept0 steps0 places0 asked g.state.memos (g.state.looked + read_steps f.phase more) places before after visited
+      (frame_on f more ∷ rest)
   whole_on x = phase_whole f.phase can x
+
+-- ---- a frame that comes to run
+
+-- it may stay as it is
+pub none_on : (g : states.Seen) (n : ℕ) (p : Phase) → HasGoneOn g g n p p false
+none_on g n (Looking place) = record { more = []; next = refl; phase = refl; given = λ all. all; stays = stays_here g 0 }
+none_on g n (LookedAt place) = record { more = []; next = refl; phase = refl; given = λ all. all; stays = stays_here g 0 }
+none_on g n (Waiting slot known reads) = record { more = []; next = tt; phase = refl; given = λ all. all; stays = stays_here g 0 }
+none_on g n (Running known reads) = record {
+  more = [];
+  next = tt;
+  phase = (λ i. Running (sym (append-nil known) i) (sym (append-nil reads) i));
+  given = λ all. subst (AreReadsGiven g) (sym (append-nil reads)) all;
+  stays = stays_here g 0;
+}
+
+-- it reads the slot that it waits for, and then reads on
+told_on : (g h : states.Seen) (n slot : ℕ) (old new last : Lesson) (ended : Bool) → IsTold g n slot old new →
+    HasGoneOn g h n (Running new.known new.reads) (Running last.known last.reads) ended →
+    HasGoneOn g h n (Waiting slot old.known old.reads) (Running last.known last.reads) ended
+told_on g h n slot old new last ended t on =
+    let reads = (λ i. reads_after (t.reads i) on.more) ∙ append_assoc old.reads (seen_of t.read ∷ []) (map seen_of on.more) in
+    let known = (λ i. known_after (t.known i) on.more) ∙ append_assoc old.known (t.read.known ∷ []) (map (λ (r : SlotRead). r.known) on.more) in
+    record {
+      more = t.read ∷ on.more;
+      next = (t.formula, t.same, t.ready, subst (λ (ks : List Known). AreReadNext g.state n ks on.more) t.known on.next);
+      phase = on.phase ∙ (λ i. Running (known i) (reads i));
+      given = λ all. subst (AreReadsGiven g) reads (on.given (t.given all));
+      stays = on.stays;
+    }
+
+-- what it reads on from is what it has learnt
+pub learnt_by : (g h : states.Seen) (n : ℕ) (d : Doing) (old new last : Lesson) (ended : Bool) → IsLearntBy d g n old new →
+    HasGoneOn g h n (Running new.known new.reads) (Running last.known last.reads) ended → HasGoneOn g h n (phase_of d old) (Running last.known last.reads) ended
+learnt_by g h n (doing.Looking place) old new last ended l on = absurd l
+learnt_by g h n (doing.LookedAt place) old new last ended l on = absurd l
+learnt_by g h n doing.Running old new last ended l on =
+    subst (λ (m : Lesson). HasGoneOn g h n (Running m.known m.reads) (Running last.known last.reads) ended) l on
+learnt_by g h n (doing.Waiting slot) old new last ended l on = told_on g h n slot old new last ended l on
 
 -- ---- a turn
 
 -- the turn is one of the frame in its phase after the reads, over a graph that has counted these
 pub turn_on : (start g h : states.Seen) (answers : Hosts → Type 0) (f : Frame) (rest : List Frame) (visited : List ℕ) (mv : Move) → g.state.signals ≡ start.state.signals →
-    HasStack g (f ∷ rest) → (t : HasTurned g h answers f visited mv) → IsTurn start (said_on g (length t.more)) h (frame_on f t.more) rest visited mv
+    HasStack g (f ∷ rest) → (t : HasTurned g h answers f visited mv) → IsTurn start (said_on g (read_steps f.phase t.more)) h (frame_on f t.more) rest visited mv
 turn_on start g h answers f rest visited mv same stack t =
     let steps = t.stays.steps in
     record {
       signals = same;
-      frames = stack_on g (length t.more) f rest t.more stack t.next t.on;
+      frames = stack_on g (read_steps f.phase t.more) f rest t.more stack t.next t.on;
       some = t.some;
-      given = given_stays g (said_on g (length t.more)) (move_reads mv) refl t.given;
+      given = given_stays g (said_on g (read_steps f.phase t.more)) (move_reads mv) refl t.given;
       progress = t.progress;
       stays = record {
         signals = t.stays.signals;
@@ -244,7 +327,7 @@ pub gone_turn : (old mid new : states.Seen) (answers : Hosts → Type 0) (n m : 
     HasTurned old new answers (record { name = n; phase = p }) visited mv
 gone_turn old mid new answers n m p q visited mv given on same turn some reads s =
     let a = on.stays in
-    let ev = evaluating_stays old mid (length on.more + 0) a in
+    let ev = evaluating_stays old mid (read_steps p on.more + 0) a in
     let steps : turn_steps mid.state.signals mid.state.memos (evaluating mid.state) visited m q mv
     ≡ turn_steps old.state.signals old.state.memos (evaluating old.state) visited n (phase_after p on.more) mv =
     (λ i. turn_steps (a.signals i) (a.memos i) (ev i) visited (same i) (on.phase i) mv) in
@@ -276,10 +359,10 @@ pub ended_asked : (old new : states.Seen) (n : ℕ) (p : Phase) (ended : Bool) (
 ended_asked old new n p ended f asked on end =
     let st = standing old.state.signals n in
     unasked (host_here st) asked (end_answer st f.learnt.known Ended f.outcome refl end.answer).0
-    ∙ sym (places_on st p on.more asked ∙ ap (λ q. places_by st q asked) (sym on.phase ∙ end.runs))
+    ∙ sym (places_on old.state n p on.more asked on.next ∙ ap (λ q. places_by st q asked) (sym on.phase ∙ end.runs))
 
 -- and in any other turn
 pub gone_asked : (old mid : states.Seen) (n m : ℕ) (p q : Phase) (ended : Bool) (asked : List HostPlace) → HasGoneOn old mid n p q ended → m ≡ n →
     places_by (standing mid.state.signals m) q asked ≡ places_by (standing old.state.signals n) p asked
 gone_asked old mid n m p q ended asked on same =
-    (λ i. places_by (standing (on.stays.signals i) (same i)) (on.phase i) asked) ∙ sym (places_on (standing old.state.signals n) p on.more asked)
+    (λ i. places_by (standing (on.stays.signals i) (same i)) (on.phase i) asked) ∙ sym (places_on old.state n p on.more asked on.next)

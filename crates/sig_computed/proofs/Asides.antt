@@ -1,5 +1,5 @@
 -- What a run has learnt.
-use Rattle.std.proofs.Common.{◌≡◌, ℕ, ◌+◌, ◌≤◌, Bool, true, cond, List, [], ◌∷◌, ◌++◌, map, length, refl, ap, ◌∙◌, subst, arith}
+use Rattle.std.proofs.Common.{◌≡◌, ℕ, ◌+◌, ◌≤◌, Bool, true, false, cond, List, [], ◌∷◌, ◌++◌, map, length, refl, ap, ◌∙◌, subst, arith}
 use Rattle.std.specs.List.{All}
 use Rattle.std.proofs.lemmas.List.{length-append, length-map}
 use Rattle.std.proofs.lemmas.List.Elements.{All-cons, All-head, All-nil, All-tail}
@@ -7,12 +7,12 @@ use Rattle.sig_base.specs.declared.value.Known.{Known}
 use Rattle.sig_base.specs.declared.value.Outcome.TheVariants.{Good}
 use Rattle.signal_model.specs.Sound.{names_of}
 use Rattle.signal_model.specs.Values.{Seen}
-use Rattle.sig_graph.specs.Reading.{SlotRead, HasReadOn}
+use Rattle.sig_graph.specs.Reading.{SlotRead, HasReadOn, IsReadOne}
 use Rattle.sig_graph.specs.States as states
 use Rattle.sig_graph.specs.States.{is_given}
 use Rattle.sig_computed.specs.Steps.{Running, Waiting}
 use Rattle.sig_computed.specs.Turns.{AreReadsGiven}
-use Rattle.sig_computed.specs.Reading.{known_after, reads_after, seen_of, HasGoneOn}
+use Rattle.sig_computed.specs.Reading.{known_after, reads_after, seen_of, HasGoneOn, IsToldWhere}
 use Rattle.sig_computed.proofs.Stacks.{names_given}
 use Rattle.sig_computed.specs.Lessons.{Lesson, good_seen}
 use Rattle.sig_computed.specs.Views.{blank_phase, phase_of}
@@ -82,3 +82,19 @@ learnt_on old new n ks ns ks' ns' ended even h given after seats steps =
         steps = omega (arith, steps, more, many);
       };
     }
+
+-- The slot that was waited for was read, where it was, as the graph tells it of the two lists.
+pub learnt_told : (b : Bool) (g : states.Seen) (n slot : ℕ) (ks : List Known) (ns : List ℕ) (ks' : List Known) (ns' : List ℕ) → length ns ≡ length ks →
+    IsReadOne b g.state n slot ks ns ks' ns' → (All (λ m. is_given g m ≡ true) ns → All (λ m. is_given g m ≡ true) ns') →
+    IsToldWhere b g n slot (record { known = ks; reads = good_seen ns ks }) (record { known = ks'; reads = good_seen ns' ks' })
+learnt_told true g n slot ks ns ks' ns' even h given = record {
+  read = h.read;
+  same = h.same;
+  formula = h.formula;
+  ready = h.ready;
+  known = h.knows;
+  reads = (λ i. good_seen (h.names i) (h.knows i)) ∙ seen_all ns ks (h.read ∷ []) even;
+  given = λ all. seen_given g ns' ks'
+      (given (subst (All (λ m. is_given g m ≡ true)) (seen_names ns ks even) (names_given g (good_seen ns ks) all)));
+}
+learnt_told false g n slot ks ns ks' ns' even h given = (λ i. record { known = h.0 i; reads = good_seen (h.1 i) (h.0 i) })

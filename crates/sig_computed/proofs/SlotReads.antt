@@ -17,11 +17,11 @@ use Rattle.sig_host.specs.Hosts.{HostPlace}
 use Rattle.sig_nodes.specs.declared.answers.Asked.TheVariants.{Slot as SlotAsked}
 use Rattle.sig_nodes.specs.Answers.{answer_here, host_here, host_place, slots_here}
 use Rattle.sig_graph.specs.Looks.{is_clean_mark}
-use Rattle.sig_graph.specs.Reading.{SlotRead, AreReadNext, IsReadNext}
+use Rattle.sig_graph.specs.Reading.{SlotRead, AreReadNext, IsReadNext, IsSlotReady}
 use Rattle.sig_graph.specs.States as states
 use Rattle.sig_graph.specs.States.{State, is_computing}
 use Rattle.sig_computed.specs.Notes.{Note}
-use Rattle.sig_computed.specs.Reading.{known_after, reads_after, seen_of}
+use Rattle.sig_computed.specs.Reading.{known_after, phase_after, read_steps, reads_after, seen_of, CanRead}
 use Rattle.sig_computed.specs.Skips.{passed_over}
 use Rattle.sig_computed.specs.Steps.{Phase, Running, Waiting, Frame, GoesOn, answered, frame_names, is_ready}
 use Rattle.sig_computed.specs.Turns.{move_by, turn_steps, waits}
@@ -65,15 +65,20 @@ module _ (s : State) (n : ℕ) (known : List Known) (r : SlotRead) (h : IsReadNe
   next_asks : (host_here (standing s.signals n) ≡ None) × ((hosts : Hosts) → Read r.known.slot ≡ answer_here hosts (standing s.signals n) known)
   next_asks = slot_answer (standing s.signals n) known (SlotAsked r.known.slot) (Good r.known.value) r.known.slot refl (h.asked (Good r.known.value))
 
-  -- the slot that is waited for is told
-  next_waits : (visited : List ℕ) (reads : List Seen) → GoesOn (Running (learnt known r.known.slot r.known.value) (reads ++ seen_of r ∷ []))
-      ≡ waits s.signals s.memos (evaluating s) (passed_over s.signals s.memos visited) r.known.slot (slice_index (slots_here (standing s.signals n)) r.known.slot) known reads
-  next_waits visited reads =
-      waits_read s.signals s.memos (evaluating s) (passed_over s.signals s.memos visited) r.known.slot r.name (Good r.known.value) known reads
-      (ready_over (standing s.signals r.name) (is_in r.name (evaluating s)) (is_in r.name (passed_over s.signals s.memos visited))
-      (λ live. clean_over s.signals s.memos visited r.name live (h.ready live).1))
-      (sym h.shown ∙ shown_read (standing s.signals r.name) (is_computing s r.name) (is_in r.name (evaluating s)) (memo_of s.memos r.name) (in_evaluating s r.name))
-      ∙ ap (λ m. waits s.signals s.memos (evaluating s) (passed_over s.signals s.memos visited) r.known.slot m known reads) h.name
+  -- it is read at once
+  next_ready : IsSlotReady s n r
+  next_ready = record { name = h.name; ready = h.ready; shown = h.shown }
+
+-- a slot that is waited for and read at once is told
+slot_waits : (s : State) (n : ℕ) (r : SlotRead) → IsSlotReady s n r → (visited : List ℕ) (known : List Known) (reads : List Seen) →
+    GoesOn (Running (learnt known r.known.slot r.known.value) (reads ++ seen_of r ∷ []))
+    ≡ waits s.signals s.memos (evaluating s) (passed_over s.signals s.memos visited) r.known.slot (slice_index (slots_here (standing s.signals n)) r.known.slot) known reads
+slot_waits s n r h visited known reads =
+    waits_read s.signals s.memos (evaluating s) (passed_over s.signals s.memos visited) r.known.slot r.name (Good r.known.value) known reads
+    (ready_over (standing s.signals r.name) (is_in r.name (evaluating s)) (is_in r.name (passed_over s.signals s.memos visited))
+    (λ live. clean_over s.signals s.memos visited r.name live (h.ready live).1))
+    (sym h.shown ∙ shown_read (standing s.signals r.name) (is_computing s r.name) (is_in r.name (evaluating s)) (memo_of s.memos r.name) (in_evaluating s r.name))
+    ∙ ap (λ m. waits s.signals s.memos (evaluating s) (passed_over s.signals s.memos visited) r.known.slot m known reads) h.name
 
 -- ---- counts
 
@@ -102,6 +107,18 @@ reads_unknown s n known (r ∷ rs) all =
     let same : unknown_slots count (known_after (learnt known r.known.slot r.known.value) rs) ≡ unknown_slots count (known_after known (r ∷ rs)) =
     ap (unknown_slots count) (append_assoc known (r.known ∷ []) (map (λ (q : SlotRead). q.known) rs)) in
     omega (arith, next, less, same)
+
+-- the same behind a slot that was waited for
+pub waited_unknown : (s : State) (n : ℕ) (known : List Known) (r : SlotRead) (rs : List SlotRead) → AreReadNext s n (learnt known r.known.slot r.known.value) rs →
+    unknown_slots (length (slots_here (standing s.signals n))) (known_after known (r ∷ rs)) + length rs
+    ≡ unknown_slots (length (slots_here (standing s.signals n))) (learnt known r.known.slot r.known.value)
+waited_unknown s n known r rs all =
+    let count : ℕ = length (slots_here (standing s.signals n)) in
+    let next : unknown_slots count (known_after (learnt known r.known.slot r.known.value) rs) + length rs ≡ unknown_slots count (learnt known r.known.slot r.known.value) =
+    reads_unknown s n (learnt known r.known.slot r.known.value) rs all in
+    let same : unknown_slots count (known_after (learnt known r.known.slot r.known.value) rs) ≡ unknown_slots count (known_after known (r ∷ rs)) =
+    ap (unknown_slots count) (append_assoc known (r.known ∷ []) (map (λ (q : SlotRead). q.known) rs)) in
+    omega (arith, next, same)
 
 -- ---- the whole
 
@@ -135,7 +152,7 @@ module _ (hosts : Hosts) (start g : states.Seen) (signals : g.state.signals ≡ 
       let asks = next_asks g.state n known r h in
       let more : good_reads (reads ++ seen_of r ∷ []) ≡ good_reads reads + 1 = reads_more reads (seen_of r) in
       goes_on (steps + 1) (steps + 1) (Waiting r.known.slot known reads) (Running (learnt known r.known.slot r.known.value) (reads ++ seen_of r ∷ [])) asks.0
-      (next_waits g.state n known r h visited reads) (omega arith) (omega (arith, more))
+      (slot_waits g.state n r (next_ready g.state n known r h) visited known reads) (omega arith) (omega (arith, more))
       (goes_on steps (steps + 1) (Running known reads) (Waiting r.known.slot known reads) asks.0 (ap (λ (a : Step). answered a known reads) (asks.1 hosts))
       (omega arith) refl x)
 
@@ -154,3 +171,22 @@ module _ (hosts : Hosts) (start g : states.Seen) (signals : g.state.signals ≡ 
       (reads_after (reads ++ seen_of r ∷ []) rs) (reads_after reads (r ∷ rs)) (omega arith)
       (append_assoc known (r.known ∷ []) (map (λ (q : SlotRead). q.known) rs)) (append_assoc reads (seen_of r ∷ []) (map seen_of rs))
       (reads_whole (steps + 1) (learnt known r.known.slot r.known.value) (reads ++ seen_of r ∷ []) rs all.1 (one_whole steps known reads r all.0 x))
+
+  -- a slot that was waited for is read
+  told_whole : (steps : ℕ) (known : List Known) (reads : List Seen) (r : SlotRead) → host_here (standing g.state.signals n) ≡ None → IsSlotReady g.state n r →
+      WholeIn steps (Waiting r.known.slot known reads) → WholeIn steps (Running (learnt known r.known.slot r.known.value) (reads ++ seen_of r ∷ []))
+  told_whole steps known reads r none h x =
+      let more : good_reads (reads ++ seen_of r ∷ []) ≡ good_reads reads + 1 = reads_more reads (seen_of r) in
+      goes_on steps steps (Waiting r.known.slot known reads) (Running (learnt known r.known.slot r.known.value) (reads ++ seen_of r ∷ [])) none
+      (slot_waits g.state n r h visited known reads) (omega arith) (omega (arith, more)) x
+
+  -- and others behind it
+  pub waited_whole : (steps slot : ℕ) (known : List Known) (reads : List Seen) (more : List SlotRead) → CanRead g.state n (Waiting slot known reads) more →
+      WholeIn steps (Waiting slot known reads) → WholeIn (steps + read_steps (Waiting slot known reads) more) (phase_after (Waiting slot known reads) more)
+  waited_whole steps slot known reads [] can x = subst (λ m. WholeIn m (Waiting slot known reads)) (omega arith) x
+  waited_whole steps slot known reads (r ∷ rs) can x =
+      whole_same (steps + length rs) (steps + length rs) (known_after (learnt known r.known.slot r.known.value) rs) (known_after known (r ∷ rs))
+      (reads_after (reads ++ seen_of r ∷ []) rs) (reads_after reads (r ∷ rs)) refl
+      (append_assoc known (r.known ∷ []) (map (λ (q : SlotRead). q.known) rs)) (append_assoc reads (seen_of r ∷ []) (map seen_of rs))
+      (reads_whole steps (learnt known r.known.slot r.known.value) (reads ++ seen_of r ∷ []) rs can.3
+      (told_whole steps known reads r can.0 can.2 (subst (λ m. WholeIn steps (Waiting m known reads)) (sym can.1) x)))

@@ -50,7 +50,7 @@ known_any n s u v [] = refl
 known_any n s u v (k ∷ ks) = ap (λ b. k.slot == n || b) (known_any n s u v ks)
 
 -- nor does their number
-unknown_any : (n s : ℕ) (u v : Value) (known : List Known) → unknown_slots n (learnt known s u) ≡ unknown_slots n (learnt known s v)
+pub unknown_any : (n s : ℕ) (u v : Value) (known : List Known) → unknown_slots n (learnt known s u) ≡ unknown_slots n (learnt known s v)
 unknown_any zero s u v known = refl
 unknown_any (suc n) s u v known = (λ i. cond (known_any n s u v known i) 0 1 + unknown_any n s u v known i)
 

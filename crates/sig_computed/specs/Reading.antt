@@ -1,16 +1,19 @@
 -- A frame that runs reads on in one go, as far as its slots are ready, before it comes to a move.
-use Rattle.std.specs.Prelude.{◌≡◌, ℕ, ◌+◌, Bool, List, [], ◌++◌, map, length, if◌then◌else◌}
+use Rattle.std.specs.Prelude.{◌≡◌, ℕ, ◌+◌, Bool, true, false, List, [], ◌∷◌, ◌++◌, None, map, length, if◌then◌else◌}
 use Rattle.sig_base.specs.declared.value.Known.{Known}
 use Rattle.sig_base.specs.declared.value.Outcome.TheVariants.{Good}
 use Rattle.signal_model.specs.Recipes.{Hosts}
-use Rattle.signal_model.specs.Signals.{Stands}
-use Rattle.signal_model.specs.Values.{Seen}
+use Rattle.signal_model.specs.Signals.{Stands, standing}
+use Rattle.signal_model.specs.Values.{Seen, learnt}
 use Rattle.sig_nodes.specs.declared.answers.Asked.TheVariants.{Ended}
-use Rattle.sig_nodes.specs.Answers.{IsAnswerHere}
-use Rattle.sig_graph.specs.Reading.{SlotRead, AreReadNext}
+use Rattle.sig_nodes.specs.Answers.{host_here, IsAnswerHere}
+use Rattle.sig_graph.specs.Reading.{SlotRead, AreReadNext, IsSlotReady}
 use Rattle.sig_graph.specs.States as states
 use Rattle.sig_graph.specs.States.{State}
+use Rattle.sig_computed.specs.declared.frames.Doing.{Doing}
+use Rattle.sig_computed.specs.declared.frames.Doing.TheVariants as doing
 use Rattle.sig_computed.specs.declared.frames.Open.{Open}
+use Rattle.sig_computed.specs.Lessons.{Lesson}
 use Rattle.sig_computed.specs.Steps.{Phase, Looking, LookedAt, Running, Waiting, Frame, Move}
 use Rattle.sig_computed.specs.Skips.{passed_over}
 use Rattle.sig_computed.specs.Views.{evaluating, phase_of, Stays}
@@ -33,22 +36,61 @@ abbrev pub phase_after : Phase → List SlotRead → Phase
 phase_after (Looking place) more = Looking place
 phase_after (LookedAt place) more = LookedAt place
 phase_after (Running known reads) more = Running (known_after known more) (reads_after reads more)
-phase_after (Waiting slot known reads) more = Waiting slot known reads
+phase_after (Waiting slot known reads) [] = Waiting slot known reads
+phase_after (Waiting slot known reads) (r ∷ rs) = Running (known_after known (r ∷ rs)) (reads_after reads (r ∷ rs))
 
--- a frame that runs may read these one after the other, and no other frame reads any
+-- how many steps the reads count: that of a slot that was waited for counts none
+abbrev pub read_steps : Phase → List SlotRead → ℕ
+read_steps (Looking place) more = length more
+read_steps (LookedAt place) more = length more
+read_steps (Running known reads) more = length more
+read_steps (Waiting slot known reads) [] = 0
+read_steps (Waiting slot known reads) (r ∷ rs) = length rs
+
+-- A frame that runs may read these one after the other, one that waits for the slot of a formula may read this one first, and no other frame
+-- reads any.
 abbrev pub CanRead : State → ℕ → Phase → List SlotRead → Type 0
 CanRead s n (Looking place) more = more ≡ []
 CanRead s n (LookedAt place) more = more ≡ []
 CanRead s n (Running known reads) more = AreReadNext s n known more
-CanRead s n (Waiting slot known reads) more = more ≡ []
+CanRead s n (Waiting slot known reads) [] = Unit {0}
+CanRead s n (Waiting slot known reads) (r ∷ rs) =
+    (host_here (standing s.signals n) ≡ None) × (r.known.slot ≡ slot) × IsSlotReady s n r × AreReadNext s n (learnt known r.known.slot r.known.value) rs
 
--- A computed has read on from one phase to another: a step is counted for each read, and one more where its formula came to an end.
+-- A slot that was waited for is read: what is known and what was read, before and after.
+pub record IsTold (g : states.Seen) (n slot : ℕ) (old new : Lesson) : Type 0 where
+  pub read : SlotRead
+  pub same : read.known.slot ≡ slot
+  pub formula : host_here (standing g.state.signals n) ≡ None
+  pub ready : IsSlotReady g.state n read
+  pub known : new.known ≡ learnt old.known read.known.slot read.known.value
+  pub reads : new.reads ≡ old.reads ++ seen_of read ∷ []
+  pub given : AreReadsGiven g old.reads → AreReadsGiven g new.reads
+
+-- where it is read; else all is left as it was
+abbrev pub IsToldWhere : Bool → states.Seen → ℕ → ℕ → Lesson → Lesson → Type 0
+IsToldWhere true g n slot old new = IsTold g n slot old new
+IsToldWhere false g n slot old new = new ≡ old
+
+-- what a frame has learnt that comes to run: it ran, or the slot that it waited for is read
+abbrev pub IsLearntBy : Doing → states.Seen → ℕ → Lesson → Lesson → Type 0
+IsLearntBy (doing.Looking place) g n old new = ⊥
+IsLearntBy (doing.LookedAt place) g n old new = ⊥
+IsLearntBy doing.Running g n old new = new ≡ old
+IsLearntBy (doing.Waiting slot) g n old new = IsTold g n slot old new
+
+-- whether a frame comes to run: else its phase is as it was
+abbrev pub ComesToRun : Bool → states.Seen → Open → Open → Type 0
+ComesToRun true g old new = (new.doing ≡ doing.Running) × IsLearntBy old.doing g old.id old.learnt new.learnt
+ComesToRun false g old new = phase_of new.doing new.learnt ≡ phase_of old.doing old.learnt
+
+-- A computed has read on from one phase to another: the steps of its reads are counted, and one more where its formula came to an end.
 pub record HasGoneOn (old new : states.Seen) (n : ℕ) (before after : Phase) (ended : Bool) : Type 0 where
   pub more : List SlotRead
   pub next : CanRead old.state n before more
   pub phase : after ≡ phase_after before more
   pub given : AreReadsGiven old (phase_reads before) → AreReadsGiven old (phase_reads (phase_after before more))
-  pub stays : Stays old new old.state.progress (length more + (if ended then 1 else 0))
+  pub stays : Stays old new old.state.progress (read_steps before more + (if ended then 1 else 0))
 
 -- a frame that runs whose formula has come to its outcome
 pub record HasEnded (st : Stands) (f : Open) : Type 0 where
@@ -68,4 +110,4 @@ pub record HasTurned (old new : states.Seen) (answers : Hosts → Type 0) (f : F
   pub given : AreReadsGiven old (move_reads mv)
   pub progress : IsProgressBy f.name (phase_after f.phase more) mv old.state.progress new.state.progress
   pub stays : Stays old new new.state.progress
-      (length more + turn_steps old.state.signals old.state.memos (evaluating old.state) visited f.name (phase_after f.phase more) mv)
+      (read_steps f.phase more + turn_steps old.state.signals old.state.memos (evaluating old.state) visited f.name (phase_after f.phase more) mv)

@@ -6,7 +6,7 @@ ghost use Rattle.signal_model.specs.Sound.{names_of};
 ghost use Rattle.signal_model.specs.Values.{learnt};
 ghost use Rattle.sig_nodes.specs.declared.answers.Asked.TheVariants.{Ended};
 ghost use Rattle.sig_nodes.specs.Answers.{IsAnswerHere};
-ghost use Rattle.sig_computed.specs.Reading.{HasGoneOn};
+ghost use Rattle.sig_computed.specs.Reading.{HasGoneOn, IsToldWhere};
 ghost use Rattle.sig_computed.specs.Steps.{Running};
 ghost use Rattle.sig_computed.specs.Views.{blank_phase, frame_of, held, outer_of, outer_phase, phase_of, tops};
 
@@ -132,6 +132,19 @@ impl Learnt {
     {
         let ended = graph.read_on(id, &mut self.known, &mut self.reads, outcome)?;
         Ok(ended)
+    }
+
+    /// Reads a slot that was waited for, where a formula asked for it and its signal is read at once. Whether it did: else nothing changes.
+    pub(crate) fn read_slot(
+        &mut self,
+        graph: &Graph,
+        id: NodeId,
+        slot: u32,
+    ) -> Result<bool, NoMemory>
+        ensures { IfOk result (λ b. IsToldWhere b graph.now id slot self.old self.new) }
+    {
+        let read = graph.read_slot(id, slot, &mut self.known, &mut self.reads)?;
+        Ok(read)
     }
 
     /// Exchanges its lists, and a list of ids, for those that the graph keeps, which are empty and have room.

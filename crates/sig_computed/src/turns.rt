@@ -12,8 +12,9 @@ ghost use Rattle.sig_graph.specs.Looks.{has_moved, is_clean_mark};
 ghost use Rattle.sig_graph.specs.SourceLooks.{named};
 ghost use Rattle.sig_graph.specs.States.{is_computing, is_given, progress_at};
 ghost use Rattle.sig_nodes.specs.Computations.{GoesOn};
-ghost use Rattle.sig_computed.specs.Reading.{HasEnded, HasGoneOn, HasTurned};
+ghost use Rattle.sig_computed.specs.Reading.{ComesToRun, HasEnded, HasGoneOn, HasTurned};
 ghost use Rattle.sig_computed.specs.Steps.{answered, decided, is_ready, looked, ready_outcome, slot_read};
+ghost use Rattle.sig_computed.specs.declared.frames.Doing.TheVariants as doing;
 ghost use Rattle.sig_computed.specs.Views.{evaluating, first_moved, first_name, frame_of, move_of, or_cycle, phase_of, progressed, Stays};
 ghost use Rattle.sig_computed.specs.Waited.{IsVisitedSource};
 ghost use Rattle.sig_computed.specs.Asked.{asked_once, places_by, CanAsk};
@@ -402,20 +403,59 @@ fn turn_of(
     }
 }
 
-// Where a frame runs it reads on, as far as the slots that its formula needs are ready. Whether the formula came to its end: the frame has
-// its outcome then.
-fn read_on(graph: &mut Graph, frame: &mut Open) -> Result<bool, NoMemory>
+// A frame that comes back to the slot that it waits for, whose signal was settled last, reads that one where it is ready, and runs then.
+#[inline(always)]
+fn come_back(
+    graph: &Graph,
+    visited: &Visited,
+    frame: &mut Open,
+    slot: u32,
+) -> Result<bool, NoMemory>
+    requires waits { frame.old.doing ≡ doing.Waiting slot }
+    requires slot { slot < length (slots_here (standing graph.now.state.signals frame.old.id)) }
+    ensures run { IfOk result (λ runs. ComesToRun runs graph.now frame.old frame.new) }
+    ensures id { OnOk result (frame.new.id ≡ frame.old.id) }
+{
+    if !visited.is_last(slot_of(graph, frame.id, slot)) {
+        return Ok(false);
+    }
+    let read = frame.learnt.read_slot(graph, frame.id, slot)?;
+    if !read {
+        return Ok(false);
+    }
+    frame.doing = Doing::Running;
+    Ok(true)
+}
+
+// Whether a frame runs, as one does that comes back to its slot where that is read.
+#[inline(always)]
+fn comes_to_run(graph: &Graph, visited: &Visited, frame: &mut Open) -> Result<bool, NoMemory>
+    requires { Fits graph.now (frame_of frame.old) }
+    ensures run { IfOk result (λ runs. ComesToRun runs graph.now frame.old frame.new) }
+    ensures id { OnOk result (frame.new.id ≡ frame.old.id) }
+{
+    match frame.doing {
+        Doing::Running => Ok(true),
+        Doing::Waiting(slot) => come_back(graph, visited, frame, slot),
+        _ => Ok(false),
+    }
+}
+
+// Where a frame runs, or comes back to the slot that it waits for, it reads on, as far as the slots that its formula needs are ready. Whether
+// the formula came to its end: the frame has its outcome then.
+#[inline(always)]
+fn read_on(graph: &mut Graph, visited: &Visited, frame: &mut Open) -> Result<bool, NoMemory>
+    requires { Fits graph.old (frame_of frame.old) }
     ensures on { IfOk result (λ ended. HasGoneOn graph.old graph.new frame.old.id (phase_of frame.old.doing frame.old.learnt) (phase_of frame.new.doing frame.new.learnt) ended) }
     ensures id { OnOk result (frame.new.id ≡ frame.old.id) }
     ensures ended { IfOk result (λ ended. ended ≡ true → HasEnded (standing graph.old.state.signals frame.old.id) frame.new) }
 {
-    match frame.doing {
-        Doing::Running => {
-            let ended = frame.learnt.read_on(graph, frame.id, &mut frame.outcome)?;
-            Ok(ended)
-        }
-        _ => Ok(false),
+    let runs = comes_to_run(graph, visited, frame)?;
+    if !runs {
+        return Ok(false);
     }
+    let ended = frame.learnt.read_on(graph, frame.id, &mut frame.outcome)?;
+    Ok(ended)
 }
 
 /// One turn of a frame: it reads on, and where this hasn't ended its run, it takes a step from the phase that it has come to. The turn, the
@@ -437,7 +477,7 @@ pub(crate) fn next_turn(
     ensures asked { OnOk result (⟦<Shelf as Lent>⟧.asked shelf.new ≡ places_by (standing graph.old.state.signals frame.old.id) (phase_of frame.old.doing frame.old.learnt) (⟦<Shelf as Lent>⟧.asked shelf.old)) }
     ensures visited { OnOk result ((m : ℕ) → is_in m visited.new ≡ is_in m visited.old) }
 {
-    let ended = read_on(graph, frame)?;
+    let ended = read_on(graph, visited, frame)?;
     if ended {
         return Ok(Turn::Ends);
     }

@@ -23,7 +23,7 @@ use Rattle.sig_marks.specs.Tables.{MarkTable}
 use Rattle.sig_nodes.specs.declared.answers.Asked.TheVariants.{Slot as SlotAsked, Ended}
 use Rattle.sig_nodes.specs.declared.node.Node.{Node}
 use Rattle.sig_nodes.specs.declared.node.Body.TheVariants.{Computed as ComputedBody}
-use Rattle.sig_nodes.specs.Answers.{slots_here, IsAnswerHere, IsAnswerOf}
+use Rattle.sig_nodes.specs.Answers.{host_here, host_place, slots_here, IsAnswerHere, IsAnswerOf}
 use Rattle.sig_nodes.proofs.Shared.{formula_ends, formula_needs}
 use Rattle.sig_nodes.specs.Computations.{Computation}
 use Rattle.sig_nodes.specs.Reading.{IsNeeded}
@@ -32,7 +32,7 @@ use Rattle.sig_nodes.specs.Nodes.{body_at, stands_of}
 use Rattle.sig_graph.specs.Parts.{signals_of, state_of}
 use Rattle.sig_graph.specs.Places.{KeepsMarks}
 use Rattle.sig_graph.specs.States.{State, counted}
-use Rattle.sig_graph.specs.Reading.{SlotRead, AreReadHere, AreReadNext, AsksFor, HasReadHere, HasReadOn, IsReadHere, IsReadNext, IsReady, ReadsNext}
+use Rattle.sig_graph.specs.Reading.{SlotRead, AreReadHere, AreReadNext, AsksFor, HasReadHere, HasReadOn, IsReadHere, IsReadNext, IsReadOne, IsReadWhere, IsReady, IsSlotReady, ReadsNext}
 use Rattle.sig_graph.proofs.Consistency.{computed_here}
 use Rattle.sig_graph.proofs.Lookups.{at_place, shown_found}
 use Rattle.sig_graph.proofs.Parts.{progress_found, stands}
@@ -171,23 +171,49 @@ pair_answers xs marked c known known' reads reads' o a b v w x is free first h s
 
 -- ---- by what the nodes stand for
 
+-- a slot whose signal is read at once
+slot_found : (xs : List Node) (g l w id : ℕ) (t : MarkTable) (c : Computation) (r : SlotRead) → KeepsMarks xs g t → body_at xs id ≡ ComputedBody c →
+    slice_get c.recipe.slots r.known.slot ≡ Some r.name → IsReady xs t.marked r.name r.known.value → IsSlotReady (state_of xs g l w) id r
+slot_found xs g l w id t c r keeps is name h =
+    let slots : slots_here (standing (signals_of xs) id) ≡ c.recipe.slots = ap slots_here (stands xs id ∙ ap (stands_of id) is) in
+    record {
+      name = sym (ap (λ (ns : List ℕ). slice_index ns r.known.slot) slots ∙ get_or_from_slice_get c.recipe.slots r.known.slot r.name 0 name);
+      ready = λ on.
+          let calm = h.calm (computed_here xs r.name on) in (
+            ap is_some (progress_found xs r.name) ∙ calm.0,
+            ap is_clean_mark (sym (unmarked_clean xs g t r.name keeps (computed_here xs r.name on) calm.1)),
+          );
+      shown = sym (shown_found xs g r.name) ∙ h.shown;
+    }
+
 -- a read
 read_found : (xs : List Node) (g l w id : ℕ) (t : MarkTable) (c : Computation) (known : List Known) (r : SlotRead) → KeepsMarks xs g t →
     body_at xs id ≡ ComputedBody c → IsReadHere xs t.marked c.recipe known r → IsReadNext (state_of xs g l w) id known r
 read_found xs g l w id t c known r keeps is h =
     let here : standing (signals_of xs) id ≡ IsComputed (record { name = id; recipe = c.recipe }) = stands xs id ∙ ap (stands_of id) is in
     let slots : slots_here (standing (signals_of xs) id) ≡ c.recipe.slots = ap slots_here here in
+    let found = slot_found xs g l w id t c r keeps is h.name h.ready in
     record {
       asked = λ o. subst (λ (st : Stands). IsAnswerHere st known (SlotAsked r.known.slot) o) (sym here) (h.asked o);
       judged = subst (λ (ns : List ℕ). IsUnknownSlot (length ns) r.known.slot known) (sym slots) h.judged;
-      name = sym (ap (λ (ns : List ℕ). slice_index ns r.known.slot) slots ∙ get_or_from_slice_get c.recipe.slots r.known.slot r.name 0 h.name);
-      ready = λ on.
-          let calm = h.ready.calm (computed_here xs r.name on) in (
-            ap is_some (progress_found xs r.name) ∙ calm.0,
-            ap is_clean_mark (sym (unmarked_clean xs g t r.name keeps (computed_here xs r.name on) calm.1)),
-          );
-      shown = sym (shown_found xs g r.name) ∙ h.ready.shown;
+      name = found.name;
+      ready = found.ready;
+      shown = found.shown;
     }
+
+-- one slot, where it is read
+pub one_found : (b : Bool) (xs : List Node) (g l w id n : ℕ) (t : MarkTable) (c : Computation) (f : Tree) (known known' : List Known) (reads reads' : List ℕ) →
+    KeepsMarks xs g t → body_at xs id ≡ ComputedBody c → c.recipe.expression ≡ recipes.formula None f →
+    IsReadWhere b xs t.marked c.recipe n known reads known' reads' → IsReadOne b (state_of xs g l w) id n known reads known' reads'
+one_found true xs g l w id n t c f known known' reads reads' keeps is formula h = record {
+  read = h.read;
+  same = h.same;
+  knows = h.knows;
+  names = h.names;
+  formula = ap host_here (stands xs id ∙ ap (stands_of id) is) ∙ ap host_place formula;
+  ready = slot_found xs g l w id t c h.read keeps is h.name h.ready;
+}
+one_found false xs g l w id n t c f known known' reads reads' keeps is formula h = h
 
 -- each of them
 reads_found : (xs : List Node) (g l w id : ℕ) (t : MarkTable) (c : Computation) (known : List Known) (rs : List SlotRead) → KeepsMarks xs g t →
@@ -223,6 +249,14 @@ names_read P xs marked c known known' reads reads' each h all =
     go ks [] q = All-nil P
     go ks (r ∷ rs) q =
         All-cons P r.name (map name_in rs) (at_place P c.slots r.known.slot (Some r.name) each (sym q.0.name)) (go (ks ++ r.known ∷ []) rs q.1)
+
+-- the same of one slot
+pub name_read : (b : Bool) (P : ℕ → Type 0) (xs : List Node) (marked : List Bool) (c : Recipe) (n : ℕ) (known known' : List Known) (reads reads' : List ℕ) →
+    ((m : ℕ) → is_in m c.slots ≡ true → P m) → IsReadWhere b xs marked c n known reads known' reads' → All P reads → All P reads'
+name_read true P xs marked c n known known' reads reads' each h all =
+    subst (All P) (sym h.names) (All-append P reads (h.read.name ∷ []) all
+    (All-cons P h.read.name [] (at_place P c.slots h.read.known.slot (Some h.read.name) each (sym h.name)) (All-nil P)))
+name_read false P xs marked c n known known' reads reads' each h all = subst (All P) (sym h.1) all
 
 -- ---- steps
 

@@ -23,7 +23,7 @@ use Rattle.sig_graph.specs.declared.reading.Onward.{Onward}
 use Rattle.sig_graph.specs.declared.reading.Onward.TheVariants as onward
 use Rattle.sig_graph.specs.declared.reading.Walked.{Walked}
 use Rattle.sig_graph.specs.declared.reading.Walked.TheVariants as walked
-use Rattle.sig_nodes.specs.Answers.{shown_here, slots_here, IsAnswerHere, IsAnswerOf}
+use Rattle.sig_nodes.specs.Answers.{host_here, shown_here, slots_here, IsAnswerHere, IsAnswerOf}
 use Rattle.sig_nodes.specs.Reading.{IsNeeded}
 use Rattle.sig_graph.specs.Looks.{is_clean_mark}
 use Rattle.sig_nodes.specs.Nodes.{body_at, is_computed_body, known_body, shown_body}
@@ -48,6 +48,28 @@ pub record IsReadNext (s : State) (id : ℕ) (known : List Known) (r : SlotRead)
 abbrev pub AreReadNext : State → ℕ → List Known → List SlotRead → Type 0
 AreReadNext s id known [] = Unit {0}
 AreReadNext s id known (r ∷ rs) = IsReadNext s id known r × AreReadNext s id (learnt known r.known.slot r.known.value) rs
+
+-- A slot of a computed is read without a look below, as such a value: its signal is no computed, or is neither being evaluated nor marked, and it
+-- shows this one.
+pub record IsSlotReady (s : State) (id : ℕ) (r : SlotRead) : Type 0 where
+  pub name : r.name ≡ slice_index (slots_here (standing s.signals id)) r.known.slot
+  pub ready : is_computed (standing s.signals r.name) ≡ true →
+      (is_computing s r.name ≡ false) × (is_clean_mark (mark_of s.signals s.memos r.name) ≡ true)
+  pub shown : shown_here (standing s.signals r.name) (is_computing s r.name) (kept_outcome (memo_of s.memos r.name)) ≡ Good r.known.value
+
+-- A slot of a computed with a formula is read so, and put behind what is known and the names of what was read.
+pub record HasReadOne (s : State) (id slot : ℕ) (known : List Known) (reads : List ℕ) (known' : List Known) (reads' : List ℕ) : Type 0 where
+  pub read : SlotRead
+  pub same : read.known.slot ≡ slot
+  pub knows : known' ≡ known ++ read.known ∷ []
+  pub names : reads' ≡ reads ++ read.name ∷ []
+  pub formula : host_here (standing s.signals id) ≡ None
+  pub ready : IsSlotReady s id read
+
+-- where it is read; else all is left as it was
+abbrev pub IsReadOne : Bool → State → ℕ → ℕ → List Known → List ℕ → List Known → List ℕ → Type 0
+IsReadOne true s id slot known reads known' reads' = HasReadOne s id slot known reads known' reads'
+IsReadOne false s id slot known reads known' reads' = (known' ≡ known) × (reads' ≡ reads)
 
 -- The values that are known, and the names of what was read, before and after some slots were read.
 pub record HasReadOn (s : State) (id : ℕ) (known : List Known) (reads : List ℕ) (known' : List Known) (reads' : List ℕ) : Type 0 where
@@ -80,6 +102,21 @@ pub record HasReadHere (xs : List Node) (marked : List Bool) (c : Recipe) (known
   pub knows : known' ≡ known ++ map (λ (r : SlotRead). r.known) more
   pub names : reads' ≡ reads ++ map (λ (r : SlotRead). r.name) more
   pub here : AreReadHere xs marked c known more
+
+-- a slot is known, and its signal, which is read at once, was read
+pub record ReadsReady (xs : List Node) (marked : List Bool) (c : Recipe) (slot : ℕ) (known : List Known) (reads : List ℕ) (known' : List Known)
+    (reads' : List ℕ) : Type 0 where
+  pub read : SlotRead
+  pub same : read.known.slot ≡ slot
+  pub knows : known' ≡ known ++ read.known ∷ []
+  pub names : reads' ≡ reads ++ read.name ∷ []
+  pub name : slice_get c.slots read.known.slot ≡ Some read.name
+  pub ready : IsReady xs marked read.name read.known.value
+
+-- where it is read at once; else all is left as it was
+abbrev pub IsReadWhere : Bool → List Node → List Bool → Recipe → ℕ → List Known → List ℕ → List Known → List ℕ → Type 0
+IsReadWhere true xs marked c slot known reads known' reads' = ReadsReady xs marked c slot known reads known' reads'
+IsReadWhere false xs marked c slot known reads known' reads' = (known' ≡ known) × (reads' ≡ reads)
 
 -- one slot more is known, and its signal was read
 pub record ReadsNext (xs : List Node) (marked : List Bool) (c : Recipe) (known : List Known) (reads : List ℕ) (known' : List Known)

@@ -4,7 +4,7 @@ ghost use Rattle.std.specs.List.{All};
 ghost use Rattle.signal_model.specs.Signals.{is_computed, standing};
 ghost use Rattle.signal_model.specs.Memos.{holds_cycle, is_stale, sources_of};
 ghost use Rattle.sig_nodes.specs.declared.answers.Asked.TheVariants.{Ended};
-ghost use Rattle.sig_graph.specs.Reading.{HasReadOn};
+ghost use Rattle.sig_graph.specs.Reading.{HasReadOn, IsReadOne};
 ghost use Rattle.sig_graph.specs.Looks.{has_moved};
 ghost use Rattle.sig_nodes.specs.Answers.{slots_here, IsAnswerHere, IsJudgedAnswer};
 ghost use Rattle.sig_graph.specs.States.{counted, is_computing, is_given, progress_at, with_kept_run, with_look, with_progress, Becomes, CanWear};
@@ -13,7 +13,7 @@ ghost use Rattle.sig_nodes.specs.Computations.{GoesOn};
 use crate::end_marks::{end_mark, look_over, run_unmarks, stop_unmarks};
 use crate::graph::Graph;
 use crate::links::{copied, relink};
-use crate::reading::read_slots;
+use crate::reading::{read_ready, read_slots};
 use sig_base::{Known, NoMemory, NodeId, Outcome};
 use sig_nodes::{
     Asked, IdList, Memo, ask_at, begin_at, compared_at, computation_at, end_at, keep_memo_at,
@@ -129,6 +129,32 @@ impl Graph {
             &mut self.looked,
         )?;
         Ok(ended)
+    }
+
+    /// Reads a slot that a computed's formula has asked for, where its signal is read at once, as `read_on` reads it, and puts it behind what
+    /// is known and what was read. Whether it did: else nothing changes, and so it is where a host formula has asked. It is no counted step.
+    /// Without memory the two lists may only be dropped.
+    #[inline(always)]
+    pub fn read_slot(
+        &self,
+        id: NodeId,
+        slot: u32,
+        known: &mut Vec<Known>,
+        reads: &mut Vec<NodeId>,
+    ) -> Result<bool, NoMemory>
+        ensures read { IfOk result (λ b. IsReadOne b self.now.state id slot known.old.items reads.old.items known.new.items reads.new.items) }
+        ensures even { length known.new.items + length reads.old.items ≡ length known.old.items + length reads.new.items }
+        ensures given { IfOk result (λ b. All (λ n. is_given self.now n ≡ true) reads.old.items → All (λ n. is_given self.now n ≡ true) reads.new.items) }
+    {
+        let _count = self.nodes.made();
+        let Some(computation) = computation_at(&self.nodes, id) else {
+            return Ok(false);
+        };
+        let Some(_formula) = computation.formula() else {
+            return Ok(false);
+        };
+        let read = read_ready(&self.nodes, &self.marks, computation, slot, known, reads)?;
+        Ok(read)
     }
 
     /// Changes three lists, for what is known, read and visited in a settling, for the graph's own, which are empty and have the room of those

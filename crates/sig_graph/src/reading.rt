@@ -5,7 +5,7 @@ ghost use Rattle.sig_base.specs.declared.value.Outcome.TheVariants.{Good};
 ghost use Rattle.sig_base.specs.declared.value.Value.TheVariants as value;
 ghost use Rattle.sig_nodes.specs.declared.answers.Asked.TheVariants.{Ended};
 ghost use Rattle.sig_nodes.specs.Answers.{IsAnswerOf};
-ghost use Rattle.sig_graph.specs.Reading.{AsksFor, HasReadHere, IsOnward, IsReady, IsReadyPart, IsWalked};
+ghost use Rattle.sig_graph.specs.Reading.{AsksFor, HasReadHere, IsOnward, IsReadWhere, IsReady, IsReadyPart, IsWalked};
 ghost use Rattle.sig_nodes.specs.Reading.{IsNeeded};
 ghost use Rattle.sig_formula.specs.Evaluation.{known_at};
 ghost use Rattle.sig_formula.specs.Operations.{IsPartTold};
@@ -79,6 +79,30 @@ fn learn(
     Ok(())
 }
 
+/// Reads a slot where its signal is read at once, and tells whether it is.
+#[inline(always)]
+pub(crate) fn read_ready(
+    nodes: &Nodes,
+    marks: &Marks,
+    computation: &Computation,
+    slot: u32,
+    known: &mut Vec<Known>,
+    reads: &mut Vec<NodeId>,
+) -> Result<bool, NoMemory>
+    ensures read { IfOk result (λ b. IsReadWhere b nodes.now.items marks.now.marked computation.now.recipe slot known.old.items reads.old.items known.new.items reads.new.items) }
+    ensures even { length known.new.items + length reads.old.items ≡ length known.old.items + length reads.new.items }
+{
+    let Some(id) = computation.slot(slot) else {
+        return Ok(false);
+    };
+    let Some(value) = ready_value(nodes, marks, id) else {
+        return Ok(false);
+    };
+    let value = value.copy()?;
+    learn(known, reads, slot, value, id)?;
+    Ok(true)
+}
+
 // Reads a slot that is needed next, where its signal is read at once.
 #[inline(always)]
 fn read_slot(
@@ -93,15 +117,11 @@ fn read_slot(
     ensures onward { (o : Outcome) → IfOk result (λ w. IsOnward nodes.now.items marks.now.marked computation.now.recipe w known.old.items reads.old.items known.new.items reads.new.items o) }
     ensures even { length known.new.items + length reads.old.items ≡ length known.old.items + length reads.new.items }
 {
-    let Some(id) = computation.slot(slot) else {
-        return Ok(Onward::Left);
-    };
-    let Some(value) = ready_value(nodes, marks, id) else {
-        return Ok(Onward::Left);
-    };
-    let value = value.copy()?;
-    learn(known, reads, slot, value, id)?;
-    Ok(Onward::Read)
+    let read = read_ready(nodes, marks, computation, slot, known, reads)?;
+    if read {
+        return Ok(Onward::Read);
+    }
+    Ok(Onward::Left)
 }
 
 // One answer of a formula of few operations, of which the slot that it needs is read, where that is read at once.

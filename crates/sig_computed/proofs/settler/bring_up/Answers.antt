@@ -11,6 +11,7 @@ use Rattle.sig_graph.specs.States as states
 use Rattle.sig_graph.specs.States.{is_computing}
 use Rattle.sig_computed.specs.Steps.{Frame, frame_names}
 use Rattle.sig_computed.specs.Notes.{Note, note_of, IsNoteGiven}
+use Rattle.sig_computed.specs.Reading.{read_steps}
 use Rattle.sig_computed.specs.Scenes.{Scene, Settles}
 use Rattle.sig_computed.specs.Turns.{first_stack, notes_of, HasFirst}
 use Rattle.sig_computed.specs.Views.{frame_of, held, move_of, tops}
@@ -94,7 +95,7 @@ apply-requires-clause-computing g c =
     let mv = move_of c.in_ok-turn.turn c.next_turn.new.frame in
     let e = c.in_ok-turn.ensures.turned in
     subst (λ n. is_computing c.next_turn.new.graph.state n ≡ true) (sym c.in_ok-turn.ensures.id)
-    (turn_move c.args.graph.now (said_on c.loop-going.graph (length e.more)) c.next_turn.new.graph (frame_on f e.more) rest c.loop-going.visited mv
+    (turn_move c.args.graph.now (said_on c.loop-going.graph (read_steps f.phase e.more)) c.next_turn.new.graph (frame_on f e.more) rest c.loop-going.visited mv
     (turn_on c.args.graph.now c.loop-going.graph c.next_turn.new.graph _ f rest c.loop-going.visited mv i.signals (subst (HasStack c.loop-going.graph) up i.frames) e)).computing
 
 pub apply-requires-clause-can : goal.apply-requires-clause-can
@@ -105,7 +106,7 @@ apply-requires-clause-can g c =
     let rest = tops c.loop-going.stack.items in
     let mv = move_of c.in_ok-turn.turn c.next_turn.new.frame in
     let e = c.in_ok-turn.ensures.turned in
-    (turn_move c.args.graph.now (said_on c.loop-going.graph (length e.more)) c.next_turn.new.graph (frame_on f e.more) rest c.loop-going.visited mv
+    (turn_move c.args.graph.now (said_on c.loop-going.graph (read_steps f.phase e.more)) c.next_turn.new.graph (frame_on f e.more) rest c.loop-going.visited mv
     (turn_on c.args.graph.now c.loop-going.graph c.next_turn.new.graph _ f rest c.loop-going.visited mv i.signals (subst (HasStack c.loop-going.graph) up i.frames) e)).can
 
 pub loop-going-smaller : goal.loop-going-smaller
@@ -116,7 +117,7 @@ loop-going-smaller g c =
     let rest = tops c.loop-going.stack.items in
     let mv = move_of c.in_ok-turn.turn c.next_turn.new.frame in
     let e = c.in_ok-turn.ensures.turned in
-    let said = said_on c.loop-going.graph (length e.more) in
+    let said = said_on c.loop-going.graph (read_steps f.phase e.more) in
     let next = held c.in_ok-going.going c.apply.new.frame (tops c.apply.new.stack.items) in
     let less : work c.args.graph.now.state.signals c.apply.new.graph.state.memos next c.apply.new.visited
     < work c.args.graph.now.state.signals c.loop-going.graph.state.memos (frame_on f e.more ∷ rest) c.loop-going.visited =
@@ -145,7 +146,7 @@ loop-going-preserved g c =
     let m = c.in_ok-going.ensures.graph in
     let next = held c.in_ok-going.going c.apply.new.frame (tops c.apply.new.stack.items) in
     let stack = subst (HasStack c.loop-going.graph) up i.frames in
-    let said = said_on c.loop-going.graph (length e.more) in
+    let said = said_on c.loop-going.graph (read_steps f.phase e.more) in
     let on = frame_on f e.more in
     let t : IsTurn c.args.graph.now said c.next_turn.new.graph on rest c.loop-going.visited mv =
     turn_on c.args.graph.now c.loop-going.graph c.next_turn.new.graph _ f rest c.loop-going.visited mv i.signals stack e in
@@ -155,7 +156,7 @@ loop-going-preserved g c =
     let asked = subst (HasAsked c.args.graph.now.state.signals _ _ (length c.args.notes.now.items) (length c.loop-going.notes.items)) up i.asked in
     let can = frame_can c.args.graph.now c.loop-going.graph c.loop-going.frame c.loop-going.stack.items c.loop-going.frame.id _ _ (length c.args.notes.now.items) (length c.loop-going.notes.items) i.signals
     c.made-made.ensures.few stack c.requires.there c.requires.room (omega arith) (omega arith) asked in
-    let places = c.in_ok-turn.ensures.asked ∙ places_on (standing c.loop-going.graph.state.signals c.loop-going.frame.id) f.phase e.more _ in
+    let places = c.in_ok-turn.ensures.asked ∙ places_on c.loop-going.graph.state c.loop-going.frame.id f.phase e.more _ e.next in
     let noted : map note_of c.apply.new.notes.items ≡ map note_of c.loop-going.notes.items ++ notes_of c.loop-going.frame.id mv =
     c.in_ok-going.ensures.notes ∙ ap (λ n. map note_of c.loop-going.notes.items ++ notes_of n mv) c.in_ok-turn.ensures.id in
     let count = notes_count c.loop-going.frame.id mv c.loop-going.notes.items c.apply.new.notes.items noted in
