@@ -1,10 +1,11 @@
 -- A slot that is ready is read in two moves of a frame: its formula asks for the slot, and the slot that is waited for is told.
-use Rattle.std.proofs.Common.{◌≡◌, ℕ, suc, ◌+◌, ◌≤◌, Bool, true, false, cond, List, [], ◌∷◌, ◌++◌, map, length, None, refl, sym, ap, ◌∙◌, subst, arith, append_assoc, append-nil}
+use Rattle.std.proofs.Common.{◌≡◌, ℕ, suc, ◌+◌, ◌≤◌, Bool, true, false, cond, List, [], ◌∷◌, ◌++◌, map, length, Option, None, Some, refl, sym, ap, ◌∙◌, subst, arith, append_assoc, append-nil}
 use Rattle.std.specs.Prelude.{slice_index}
 use Rattle.sig_base.specs.declared.value.Known.{Known}
 use Rattle.sig_base.specs.declared.value.Step.{Step}
 use Rattle.sig_base.specs.declared.value.Step.TheVariants.{Read}
-use Rattle.sig_base.specs.declared.value.Outcome.TheVariants.{Good}
+use Rattle.sig_base.specs.declared.value.Fault.TheVariants.{Cycle}
+use Rattle.sig_base.specs.declared.value.Outcome.TheVariants.{Bad, Good}
 use Rattle.signal_model.specs.Recipes.{Expression, Hosts, formula, host}
 use Rattle.signal_model.specs.Signals.{Signals, Computed, Stands, IsGone, IsCell, IsComputed, is_computed, is_in, standing}
 use Rattle.signal_model.specs.Values.{Seen, learnt, unknown_slots}
@@ -21,9 +22,9 @@ use Rattle.sig_graph.specs.Reading.{SlotRead, AreReadNext, IsReadNext, IsSlotRea
 use Rattle.sig_graph.specs.States as states
 use Rattle.sig_graph.specs.States.{State, is_computing}
 use Rattle.sig_computed.specs.Notes.{Note}
-use Rattle.sig_computed.specs.Reading.{known_after, phase_after, read_steps, reads_after, seen_of, CanRead}
+use Rattle.sig_computed.specs.Reading.{known_after, left_steps, phase_after, phase_left, read_steps, reads_after, seen_of, CanLeave, CanRead}
 use Rattle.sig_computed.specs.Skips.{passed_over}
-use Rattle.sig_computed.specs.Steps.{Phase, Running, Waiting, Frame, GoesOn, answered, frame_names, is_ready}
+use Rattle.sig_computed.specs.Steps.{Phase, Looking, LookedAt, Running, Waiting, Frame, GoesOn, answered, frame_names, is_ready}
 use Rattle.sig_computed.specs.Turns.{move_by, turn_steps, waits}
 use Rattle.sig_computed.specs.Views.{evaluating}
 use Rattle.sig_computed.proofs.Asks.{phase_asked, phase_asks, reads_more}
@@ -190,3 +191,15 @@ module _ (hosts : Hosts) (start g : states.Seen) (signals : g.state.signals ≡ 
       (append_assoc known (r.known ∷ []) (map (λ (q : SlotRead). q.known) rs)) (append_assoc reads (seen_of r ∷ []) (map seen_of rs))
       (reads_whole steps (learnt known r.known.slot r.known.value) (reads ++ seen_of r ∷ []) rs can.3
       (told_whole steps known reads r can.0 can.2 (subst (λ m. WholeIn steps (Waiting m known reads)) (sym can.1) x)))
+
+  -- the slot that its formula needs next is waited for
+  pub left_whole : (steps : ℕ) (left : Option ℕ) (p : Phase) → CanLeave g.state n left p → WholeIn steps p →
+      WholeIn (steps + left_steps left) (phase_left left p)
+  left_whole steps None p can x = subst (λ m. WholeIn m p) (omega arith) x
+  left_whole steps (Some slot) (Looking place) can x = absurd can
+  left_whole steps (Some slot) (LookedAt place) can x = absurd can
+  left_whole steps (Some slot) (Running known reads) can x =
+      let asks = slot_answer (standing g.state.signals n) known (SlotAsked slot) (Bad Cycle) slot refl (can.0 (Bad Cycle)) in
+      goes_on steps (steps + 1) (Running known reads) (Waiting slot known reads) asks.0 (ap (λ (a : Step). answered a known reads) (asks.1 hosts))
+      (omega arith) refl x
+  left_whole steps (Some slot) (Waiting other known reads) can x = absurd can

@@ -1,12 +1,15 @@
 -- A frame that runs reads on in one go, as far as its slots are ready, before it comes to a move.
-use Rattle.std.specs.Prelude.{◌≡◌, ℕ, ◌+◌, Bool, true, false, List, [], ◌∷◌, ◌++◌, None, map, length, if◌then◌else◌}
+use Rattle.std.specs.Prelude.{◌≡◌, ℕ, ◌+◌, Bool, true, false, List, [], ◌∷◌, ◌++◌, Option, Some, None, map, length, if◌then◌else◌}
 use Rattle.sig_base.specs.declared.value.Known.{Known}
+use Rattle.sig_base.specs.declared.value.Outcome.{Outcome}
 use Rattle.sig_base.specs.declared.value.Outcome.TheVariants.{Good}
-use Rattle.signal_model.specs.Recipes.{Hosts}
+use Rattle.signal_model.specs.Recipes.{Hosts, IsUnknownSlot}
 use Rattle.signal_model.specs.Signals.{Stands, standing}
 use Rattle.signal_model.specs.Values.{Seen, learnt}
-use Rattle.sig_nodes.specs.declared.answers.Asked.TheVariants.{Ended}
-use Rattle.sig_nodes.specs.Answers.{host_here, IsAnswerHere}
+use Rattle.sig_nodes.specs.declared.answers.Asked.TheVariants.{Slot as SlotAsked, Ended}
+use Rattle.sig_nodes.specs.Answers.{host_here, slots_here, IsAnswerHere}
+use Rattle.sig_graph.specs.declared.reading.Reached.{Reached}
+use Rattle.sig_graph.specs.declared.reading.Reached.TheVariants as reached
 use Rattle.sig_graph.specs.Reading.{SlotRead, AreReadNext, IsSlotReady}
 use Rattle.sig_graph.specs.States as states
 use Rattle.sig_graph.specs.States.{State}
@@ -55,7 +58,50 @@ CanRead s n (LookedAt place) more = more ≡ []
 CanRead s n (Running known reads) more = AreReadNext s n known more
 CanRead s n (Waiting slot known reads) [] = Unit {0}
 CanRead s n (Waiting slot known reads) (r ∷ rs) =
-    (host_here (standing s.signals n) ≡ None) × (r.known.slot ≡ slot) × IsSlotReady s n r × AreReadNext s n (learnt known r.known.slot r.known.value) rs
+    (host_here (standing s.signals n) ≡ None) × (r.known.slot ≡ slot) × IsSlotReady s n r
+    × AreReadNext s n (learnt known r.known.slot r.known.value) rs
+
+-- a frame that runs waits for the slot that its formula needs next, where one is told
+abbrev pub phase_left : Option ℕ → Phase → Phase
+phase_left None p = p
+phase_left (Some slot) (Looking place) = Looking place
+phase_left (Some slot) (LookedAt place) = LookedAt place
+phase_left (Some slot) (Running known reads) = Waiting slot known reads
+phase_left (Some slot) (Waiting other known reads) = Waiting other known reads
+
+-- only a frame that runs does
+abbrev pub CanLeave : State → ℕ → Option ℕ → Phase → Type 0
+CanLeave s n None p = Unit {0}
+CanLeave s n (Some slot) (Looking place) = ⊥
+CanLeave s n (Some slot) (LookedAt place) = ⊥
+CanLeave s n (Some slot) (Running known reads) =
+    ((o : Outcome) → IsAnswerHere (standing s.signals n) known (SlotAsked slot) o)
+    × IsUnknownSlot (length (slots_here (standing s.signals n))) slot known
+CanLeave s n (Some slot) (Waiting other known reads) = ⊥
+
+-- a step is counted for it
+abbrev pub left_steps : Option ℕ → ℕ
+left_steps None = 0
+left_steps (Some slot) = 1
+
+-- the phase once a frame has read some and waits for the next, and the steps that count
+abbrev pub phase_on : Phase → List SlotRead → Option ℕ → Phase
+phase_on p more left = phase_left left (phase_after p more)
+
+abbrev pub steps_on : Phase → List SlotRead → Option ℕ → ℕ
+steps_on p more left = read_steps p more + left_steps left
+
+-- what reading on has come to: the phase of a frame that ran, by what it has learnt
+abbrev pub reached_phase : Reached → Lesson → Phase
+reached_phase reached.Ended l = Running l.known l.reads
+reached_phase (reached.Needs slot) l = Waiting slot l.known l.reads
+reached_phase reached.Left l = Running l.known l.reads
+
+-- whether it came to its end
+abbrev pub is_ended : Reached → Bool
+is_ended reached.Ended = true
+is_ended (reached.Needs slot) = false
+is_ended reached.Left = false
 
 -- A slot that was waited for is read: what is known and what was read, before and after.
 pub record IsTold (g : states.Seen) (n slot : ℕ) (old new : Lesson) : Type 0 where
@@ -84,13 +130,16 @@ abbrev pub ComesToRun : Bool → states.Seen → Open → Open → Type 0
 ComesToRun true g old new = (new.doing ≡ doing.Running) × IsLearntBy old.doing g old.id old.learnt new.learnt
 ComesToRun false g old new = phase_of new.doing new.learnt ≡ phase_of old.doing old.learnt
 
--- A computed has read on from one phase to another: the steps of its reads are counted, and one more where its formula came to an end.
+-- A computed has read on from one phase to another: the steps of its reads are counted, and one more where its formula came to an end or told
+-- the slot that it waits for then.
 pub record HasGoneOn (old new : states.Seen) (n : ℕ) (before after : Phase) (ended : Bool) : Type 0 where
   pub more : List SlotRead
+  pub left : Option ℕ
   pub next : CanRead old.state n before more
-  pub phase : after ≡ phase_after before more
+  pub leaves : CanLeave old.state n left (phase_after before more)
+  pub phase : after ≡ phase_on before more left
   pub given : AreReadsGiven old (phase_reads before) → AreReadsGiven old (phase_reads (phase_after before more))
-  pub stays : Stays old new old.state.progress (read_steps before more + (if ended then 1 else 0))
+  pub stays : Stays old new old.state.progress (steps_on before more left + (if ended then 1 else 0))
 
 -- a frame that runs whose formula has come to its outcome
 pub record HasEnded (st : Stands) (f : Open) : Type 0 where
@@ -101,13 +150,16 @@ pub record HasEnded (st : Stands) (f : Open) : Type 0 where
 -- reads have brought it.
 pub record HasTurned (old new : states.Seen) (answers : Hosts → Type 0) (f : Frame) (visited : List ℕ) (mv : Move) : Type 0 where
   pub more : List SlotRead
+  pub left : Option ℕ
   pub next : CanRead old.state f.name f.phase more
+  pub leaves : CanLeave old.state f.name left (phase_after f.phase more)
   pub on : AreReadsGiven old (phase_reads (phase_after f.phase more))
   pub turn : (hosts : Hosts) → answers hosts → mv ≡ move_by hosts old.state.signals old.state.memos (evaluating old.state)
-      (passed_over old.state.signals old.state.memos visited) f.name (phase_after f.phase more)
+      (passed_over old.state.signals old.state.memos visited) f.name (phase_on f.phase more left)
   pub some : IsMove old.state.signals old.state.memos (evaluating old.state) (passed_over old.state.signals old.state.memos visited) f.name
-      (phase_after f.phase more) mv
+      (phase_on f.phase more left) mv
   pub given : AreReadsGiven old (move_reads mv)
-  pub progress : IsProgressBy f.name (phase_after f.phase more) mv old.state.progress new.state.progress
+  pub progress : IsProgressBy f.name (phase_on f.phase more left) mv old.state.progress new.state.progress
   pub stays : Stays old new new.state.progress
-      (read_steps f.phase more + turn_steps old.state.signals old.state.memos (evaluating old.state) visited f.name (phase_after f.phase more) mv)
+      (steps_on f.phase more left
+      + turn_steps old.state.signals old.state.memos (evaluating old.state) visited f.name (phase_on f.phase more left) mv)

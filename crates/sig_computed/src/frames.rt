@@ -6,12 +6,12 @@ ghost use Rattle.signal_model.specs.Sound.{names_of};
 ghost use Rattle.signal_model.specs.Values.{learnt};
 ghost use Rattle.sig_nodes.specs.declared.answers.Asked.TheVariants.{Ended};
 ghost use Rattle.sig_nodes.specs.Answers.{IsAnswerHere};
-ghost use Rattle.sig_computed.specs.Reading.{HasGoneOn, IsToldWhere};
+ghost use Rattle.sig_computed.specs.Reading.{HasGoneOn, IsToldWhere, is_ended, reached_phase};
 ghost use Rattle.sig_computed.specs.Steps.{Running};
 ghost use Rattle.sig_computed.specs.Views.{blank_phase, frame_of, held, outer_of, outer_phase, phase_of, tops};
 
 use sig_base::{Fault, Known, NoMemory, NodeId, Outcome, Value};
-use sig_graph::{Graph, clear_few};
+use sig_graph::{Graph, Reached, clear_few};
 use std::alloc::Global;
 use std::marker::Model;
 use std::mem;
@@ -119,19 +119,20 @@ impl Learnt {
         Ok(())
     }
 
-    /// Reads on, as far as the slots that a formula needs are ready, and tells whether it came to its end: its outcome then stands in the place
-    /// that is handed in.
+    /// Reads on, as far as the slots that a formula needs are ready, and tells what it came to: where that is its end, its outcome stands in the
+    /// place that is handed in.
+    #[inline(always)]
     pub(crate) fn read_on(
         &mut self,
         graph: &mut Graph,
         id: NodeId,
         outcome: &mut Outcome,
-    ) -> Result<bool, NoMemory>
-        ensures on { IfOk result (λ ended. HasGoneOn graph.old graph.new id (Running self.old.known self.old.reads) (Running self.new.known self.new.reads) ended) }
-        ensures ended { IfOk result (λ ended. ended ≡ true → IsAnswerHere (standing graph.old.state.signals id) self.new.known Ended outcome.new) }
+    ) -> Result<Reached, NoMemory>
+        ensures on { IfOk result (λ r. HasGoneOn graph.old graph.new id (Running self.old.known self.old.reads) (reached_phase r self.new) (is_ended r)) }
+        ensures ended { IfOk result (λ r. is_ended r ≡ true → IsAnswerHere (standing graph.old.state.signals id) self.new.known Ended outcome.new) }
     {
-        let ended = graph.read_on(id, &mut self.known, &mut self.reads, outcome)?;
-        Ok(ended)
+        let reached = graph.read_on(id, &mut self.known, &mut self.reads, outcome)?;
+        Ok(reached)
     }
 
     /// Reads a slot that was waited for, where a formula asked for it and its signal is read at once. Whether it did: else nothing changes.

@@ -13,7 +13,7 @@ ghost use Rattle.sig_graph.specs.SourceLooks.{named};
 ghost use Rattle.sig_graph.specs.States.{is_computing, is_given, progress_at};
 ghost use Rattle.sig_nodes.specs.Computations.{GoesOn};
 ghost use Rattle.sig_computed.specs.Reading.{ComesToRun, HasEnded, HasGoneOn, HasTurned};
-ghost use Rattle.sig_computed.specs.Steps.{answered, decided, is_ready, looked, ready_outcome, slot_read};
+ghost use Rattle.sig_computed.specs.Steps.{answered, decided, is_ready, looked, ready_outcome, slot_read, Running};
 ghost use Rattle.sig_computed.specs.declared.frames.Doing.TheVariants as doing;
 ghost use Rattle.sig_computed.specs.Views.{evaluating, first_moved, first_name, frame_of, move_of, or_cycle, phase_of, progressed, Stays};
 ghost use Rattle.sig_computed.specs.Waited.{IsVisitedSource};
@@ -23,7 +23,7 @@ ghost use Rattle.sig_computed.specs.Turns.{move_by, move_reads, progress_by, tur
 use crate::frames::{Doing, Open, Turn, begin_run};
 use crate::visited::Visited;
 use sig_base::{Known, NoMemory, NodeId, Outcome, Step};
-use sig_graph::{Asked, Graph, SourceLook, Standing};
+use sig_graph::{Asked, Graph, Reached, SourceLook, Standing};
 use sig_host::{Lent, Shelf};
 use signal_model::judged;
 use std::alloc::Global;
@@ -403,6 +403,26 @@ fn turn_of(
     }
 }
 
+// A frame that runs reads on, as far as the slots that its formula needs are ready, and waits for the next where that is told. Whether the
+// formula came to its end: the frame has its outcome then.
+#[inline(always)]
+fn run_on(graph: &mut Graph, frame: &mut Open) -> Result<bool, NoMemory>
+    requires { frame.old.doing ≡ doing.Running }
+    ensures on { IfOk result (λ ended. HasGoneOn graph.old graph.new frame.old.id (Running frame.old.learnt.known frame.old.learnt.reads) (phase_of frame.new.doing frame.new.learnt) ended) }
+    ensures id { OnOk result (frame.new.id ≡ frame.old.id) }
+    ensures ended { IfOk result (λ ended. ended ≡ true → HasEnded (standing graph.old.state.signals frame.old.id) frame.new) }
+{
+    let reached = frame.learnt.read_on(graph, frame.id, &mut frame.outcome)?;
+    match reached {
+        Reached::Ended => Ok(true),
+        Reached::Needs(slot) => {
+            frame.doing = Doing::Waiting(slot);
+            Ok(false)
+        }
+        Reached::Left => Ok(false),
+    }
+}
+
 // A frame that comes back to the slot that it waits for, whose signal was settled last, reads that one where it is ready, and runs then.
 #[inline(always)]
 fn come_back(
@@ -454,7 +474,7 @@ fn read_on(graph: &mut Graph, visited: &Visited, frame: &mut Open) -> Result<boo
     if !runs {
         return Ok(false);
     }
-    let ended = frame.learnt.read_on(graph, frame.id, &mut frame.outcome)?;
+    let ended = run_on(graph, frame)?;
     Ok(ended)
 }
 

@@ -12,13 +12,14 @@ use Rattle.sig_base.specs.declared.value.Outcome.TheVariants.{Good}
 use Rattle.sig_formula.specs.declared.evaluate.FormulaStep.TheVariants.{End}
 use Rattle.sig_formula.specs.declared.formula.BinOp.{BinOp}
 use Rattle.sig_formula.specs.Evaluation.{formula_step, known_at, operated}
-use Rattle.sig_formula.specs.Operations.{StaysGood}
+use Rattle.sig_formula.specs.declared.parts.Part.TheVariants as part
+use Rattle.sig_formula.specs.Operations.{IsPartTold, StaysGood}
 use Rattle.sig_formula.specs.Programs.{decides}
 use Rattle.sig_formula.specs.Trees.{Tree, binary, slot}
-use Rattle.sig_formula.proofs.Shared.{left_asks, pair_ends, part_ends, right_asks, slot_read, whole_asks}
+use Rattle.sig_formula.proofs.Shared.{left_asks, pair_ends, part_ends, right_asks, slot_asked, slot_read, whole_asks}
 use Rattle.signal_model.specs.Recipes as recipes
 use Rattle.signal_model.specs.Recipes.{Recipe, IsUnknownSlot, judged}
-use Rattle.signal_model.specs.Signals.{IsComputed, Stands, is_in, standing}
+use Rattle.signal_model.specs.Signals.{Computed, IsComputed, Stands, is_in, standing}
 use Rattle.sig_marks.specs.Tables.{MarkTable}
 use Rattle.sig_nodes.specs.declared.answers.Asked.TheVariants.{Slot as SlotAsked, Ended}
 use Rattle.sig_nodes.specs.declared.node.Node.{Node}
@@ -32,7 +33,9 @@ use Rattle.sig_nodes.specs.Nodes.{body_at, stands_of}
 use Rattle.sig_graph.specs.Parts.{signals_of, state_of}
 use Rattle.sig_graph.specs.Places.{KeepsMarks}
 use Rattle.sig_graph.specs.States.{State, counted}
-use Rattle.sig_graph.specs.Reading.{SlotRead, AreReadHere, AreReadNext, AsksFor, HasReadHere, HasReadOn, IsReadHere, IsReadNext, IsReadOne, IsReadWhere, IsReady, IsSlotReady, ReadsNext}
+use Rattle.sig_graph.specs.declared.reading.Reached.{Reached}
+use Rattle.sig_graph.specs.declared.reading.Reached.TheVariants as reached
+use Rattle.sig_graph.specs.Reading.{SlotRead, AreReadHere, AreReadNext, AsksFor, HasReadHere, HasReadOn, IsReadHere, IsReadNext, IsReached, IsReachedHere, IsReadOne, IsReadWhere, IsReady, IsSlotReady, ReadsNext}
 use Rattle.sig_graph.proofs.Consistency.{computed_here}
 use Rattle.sig_graph.proofs.Lookups.{at_place, shown_found}
 use Rattle.sig_graph.proofs.Parts.{progress_found, stands}
@@ -161,6 +164,24 @@ pub second_asks : (c : Recipe) (o : BinOp) (a b : Tree) (known : List Known) (v 
 second_asks c o a b known v is free good n h =
     formula_needs c (binary o a b) known n is (right_asks o a b known v n free (part_now a known v good) h)
 
+-- a formula that is a slot which isn't known needs that
+pub alone_left : (c : Recipe) (t : Tree) (known : List Known) (n : ℕ) → c.expression ≡ recipes.formula None t → IsPartTold (part.Slot n) t known →
+    IsNeeded c known n
+alone_left c t known n is told = alone_asks c t known is n (slot_asked t n known told.0 told.1)
+
+-- and so does an operation whose left part is one
+pub first_left : (c : Recipe) (o : BinOp) (a b : Tree) (known : List Known) (n : ℕ) → c.expression ≡ recipes.formula None (binary o a b) →
+    IsPartTold (part.Slot n) a known → IsNeeded c known n
+first_left c o a b known n is told = first_asks c o a b known is n (slot_asked a n known told.0 told.1)
+
+-- or its right part, once the left one came to a value
+pub second_left : (xs : List Node) (marked : List Bool) (c : Recipe) (known known' : List Known) (reads reads' : List ℕ) (o : BinOp) (a b : Tree) (v : Value)
+    (n : ℕ) → c.expression ≡ recipes.formula None (binary o a b) → decides o ≡ false → StaysGood a known v →
+    HasReadHere xs marked c known reads known' reads' → IsPartTold (part.Slot n) b known' → IsNeeded c known' n
+second_left xs marked c known known' reads reads' o a b v n is free good h told =
+    formula_needs c (binary o a b) known' n is
+    (right_asks o a b known' v n free (part_then xs marked c known known' reads reads' a v good h) (slot_asked b n known' told.0 told.1))
+
 -- what it makes of the two is the answer
 pub pair_answers : (xs : List Node) (marked : List Bool) (c : Recipe) (known known' : List Known) (reads reads' : List ℕ) (o : BinOp) (a b : Tree) (v w : Value)
     (x : Outcome) → c.expression ≡ recipes.formula None (binary o a b) → decides o ≡ false → StaysGood a known v →
@@ -232,6 +253,12 @@ read_on_found xs g l w id t c known known' reads reads' keeps is h = record {
   names = h.names;
   next = reads_found xs g l w id t c known h.more keeps is h.here;
 }
+
+-- what it came to
+pub reached_found : (r : Reached) (c : Computed) (known : List Known) (o : Outcome) → IsReached r c.recipe known o → IsReachedHere r (IsComputed c) known o
+reached_found reached.Ended c known o h = h
+reached_found (reached.Needs n) c known o h = h
+reached_found reached.Left c known o h = tt
 
 -- nothing was read
 pub no_read_on : (s : State) (id : ℕ) (known : List Known) (reads : List ℕ) → HasReadOn s id known reads known reads

@@ -11,7 +11,7 @@ use Rattle.sig_formula.specs.declared.parts.Part.TheVariants as part
 use Rattle.sig_formula.specs.Evaluation.{formula_step}
 use Rattle.sig_formula.specs.Trees.{Tree}
 use Rattle.signal_model.specs.Recipes.{Recipe, IsUnknownSlot}
-use Rattle.signal_model.specs.Signals.{is_computed, standing}
+use Rattle.signal_model.specs.Signals.{Stands, is_computed, standing}
 use Rattle.signal_model.specs.Memos.{memo_of}
 use Rattle.signal_model.specs.Marks.{mark_of}
 use Rattle.signal_model.specs.Sound.{kept_outcome}
@@ -21,6 +21,8 @@ use Rattle.sig_nodes.specs.declared.answers.Asked.TheVariants.{Slot as SlotAsked
 use Rattle.sig_nodes.specs.declared.node.Node.{Node}
 use Rattle.sig_graph.specs.declared.reading.Onward.{Onward}
 use Rattle.sig_graph.specs.declared.reading.Onward.TheVariants as onward
+use Rattle.sig_graph.specs.declared.reading.Reached.{Reached}
+use Rattle.sig_graph.specs.declared.reading.Reached.TheVariants as reached
 use Rattle.sig_graph.specs.declared.reading.Walked.{Walked}
 use Rattle.sig_graph.specs.declared.reading.Walked.TheVariants as walked
 use Rattle.sig_nodes.specs.Answers.{host_here, shown_here, slots_here, IsAnswerHere, IsAnswerOf}
@@ -77,6 +79,19 @@ pub record HasReadOn (s : State) (id : ℕ) (known : List Known) (reads : List �
   pub knows : known' ≡ known ++ map (λ (r : SlotRead). r.known) more
   pub names : reads' ≡ reads ++ map (λ (r : SlotRead). r.name) more
   pub next : AreReadNext s id known more
+
+-- what reading on comes to: the formula's end with its outcome, or the slot that it needs next
+abbrev pub IsReachedHere : Reached → Stands → List Known → Outcome → Type 0
+IsReachedHere reached.Ended st known o = IsAnswerHere st known Ended o
+IsReachedHere (reached.Needs n) st known o =
+    ((p : Outcome) → IsAnswerHere st known (SlotAsked n) p) × IsUnknownSlot (length (slots_here st)) n known
+IsReachedHere reached.Left st known o = Unit {0}
+
+-- what it counts beside its reads
+abbrev pub reached_steps : Reached → ℕ
+reached_steps reached.Ended = 1
+reached_steps (reached.Needs n) = 1
+reached_steps reached.Left = 0
 
 -- a signal that is read at once, and its value
 pub record IsReady (xs : List Node) (marked : List Bool) (n : ℕ) (v : Value) : Type 0 where
@@ -142,8 +157,15 @@ IsReadyPart (part.Number m) xs marked n = IsReady xs marked n (value.Int m)
 IsReadyPart (part.Slot s) xs marked n = Unit {0}
 IsReadyPart part.Open xs marked n = Unit {0}
 
--- what a walk over a formula comes to: where it has come to the formula's end, its outcome is the recipe's answer
+-- what a walk over a formula comes to: where it has come to the formula's end, its outcome is the recipe's answer, and where it left a slot,
+-- the recipe needs that
 abbrev pub IsWalked : Walked → Recipe → List Known → Outcome → Type 0
 IsWalked walked.Ended c known o = IsAnswerOf c known Ended o
-IsWalked walked.Left c known o = Unit {0}
+IsWalked (walked.Left n) c known o = IsNeeded c known n
 IsWalked walked.Open c known o = Unit {0}
+
+-- what a recipe comes to that is read on
+abbrev pub IsReached : Reached → Recipe → List Known → Outcome → Type 0
+IsReached reached.Ended c known o = IsAnswerOf c known Ended o
+IsReached (reached.Needs n) c known o = ((p : Outcome) → IsAnswerOf c known (SlotAsked n) p) × IsUnknownSlot (length c.slots) n known
+IsReached reached.Left c known o = Unit {0}

@@ -3,8 +3,7 @@ ghost use Rattle.std.specs.Prelude.{◌≡◌, ◌+◌, ◌<◌, ◌≤◌, ◌&
 ghost use Rattle.std.specs.List.{All};
 ghost use Rattle.signal_model.specs.Signals.{is_computed, standing};
 ghost use Rattle.signal_model.specs.Memos.{holds_cycle, is_stale, sources_of};
-ghost use Rattle.sig_nodes.specs.declared.answers.Asked.TheVariants.{Ended};
-ghost use Rattle.sig_graph.specs.Reading.{HasReadOn, IsReadOne};
+ghost use Rattle.sig_graph.specs.Reading.{HasReadOn, IsReachedHere, IsReadOne, reached_steps};
 ghost use Rattle.sig_graph.specs.Looks.{has_moved};
 ghost use Rattle.sig_nodes.specs.Answers.{slots_here, IsAnswerHere, IsJudgedAnswer};
 ghost use Rattle.sig_graph.specs.States.{counted, is_computing, is_given, progress_at, with_kept_run, with_look, with_progress, Becomes, CanWear};
@@ -13,7 +12,7 @@ ghost use Rattle.sig_nodes.specs.Computations.{GoesOn};
 use crate::end_marks::{end_mark, look_over, run_unmarks, stop_unmarks};
 use crate::graph::Graph;
 use crate::links::{copied, relink};
-use crate::reading::{read_ready, read_slots};
+use crate::reading::{Reached, read_ready, read_slots};
 use sig_base::{Known, NoMemory, NodeId, Outcome};
 use sig_nodes::{
     Asked, IdList, Memo, ask_at, begin_at, compared_at, computation_at, end_at, keep_memo_at,
@@ -97,29 +96,31 @@ impl Graph {
 
     /// Goes on with the evaluation of a computed's formula as long as the slot that it needs next is read without a look below: its signal is
     /// no computed, or one that is neither being evaluated nor has anything to be settled first, and shows a good value. Each is put behind
-    /// what is known and what was read. Whether the formula came to its end: then its outcome stands in its place. A host formula, a formula
-    /// of many operations, and a slot that isn't read so are left to `recipe`. Each answer that it goes on with is a counted step. What it
-    /// read, that the lists stay as even as they were, the end, the names, the steps and the graph are told apart.
+    /// what is known and what was read. It tells what the formula comes to: its end, and then its outcome stands in its place, or a slot that
+    /// isn't read so. A host formula, and one of many operations, are left to `recipe`. Each answer that it goes on with, or that it tells, is
+    /// a counted step. What it read, that the lists stay as even as they were, what it came to, the names, the steps and the graph are told
+    /// apart.
+    #[inline(always)]
     pub fn read_on(
         &mut self,
         id: NodeId,
         known: &mut Vec<Known>,
         reads: &mut Vec<NodeId>,
         outcome: &mut Outcome,
-    ) -> Result<bool, NoMemory>
+    ) -> Result<Reached, NoMemory>
         ensures read { OnOk result (HasReadOn self.old.state id known.old.items reads.old.items known.new.items reads.new.items) }
         ensures even { length known.new.items + length reads.old.items ≡ length known.old.items + length reads.new.items }
-        ensures ended { IfOk result (λ e. e ≡ true → IsAnswerHere (standing self.old.state.signals id) known.new.items Ended outcome.new) }
+        ensures reached { IfOk result (λ r. IsReachedHere r (standing self.old.state.signals id) known.new.items outcome.new) }
         ensures given { OnOk result (All (λ n. is_given self.old n ≡ true) reads.old.items → All (λ n. is_given self.old n ≡ true) reads.new.items) }
-        ensures steps { IfOk result (λ e. self.new.state.looked + length known.old.items ≤ self.old.state.looked + length known.new.items + (if e then 1 else 0)) }
+        ensures steps { IfOk result (λ r. self.new.state.looked + length known.old.items ≤ self.old.state.looked + length known.new.items + reached_steps r) }
         ensures after { OnOk result (Becomes self.old self.new (record self.old.state { looked = self.new.state.looked })) }
         ensures seats { OnOk result (self.new.seats ≡ self.old.seats) }
     {
         let _count = self.nodes.made();
         let Some(computation) = computation_at(&self.nodes, id) else {
-            return Ok(false);
+            return Ok(Reached::Left);
         };
-        let ended = read_slots(
+        let reached = read_slots(
             &self.nodes,
             &self.marks,
             computation,
@@ -128,7 +129,7 @@ impl Graph {
             outcome,
             &mut self.looked,
         )?;
-        Ok(ended)
+        Ok(reached)
     }
 
     /// Reads a slot that a computed's formula has asked for, where its signal is read at once, as `read_on` reads it, and puts it behind what

@@ -18,6 +18,7 @@ mod spares;
 
 pub use errors::NodeFault;
 pub use graph::Graph;
+pub use reading::Reached;
 pub use sig_nodes::{Asked, IdList, Mark, Recipe, Standing};
 pub use source_looks::SourceLook;
 pub use spares::clear_few;

@@ -1,11 +1,10 @@
 // Reading a formula's slots in one go, as long as what it needs next is read without a look below.
-ghost use Rattle.std.specs.Prelude.{◌≡◌, ◌+◌, ◌≤◌, [], ◌++◌, ◌∷◌, length, false, true, None, IfOk, IfSome, OnOk, if◌then◌else◌};
+ghost use Rattle.std.specs.Prelude.{◌≡◌, ◌+◌, ◌≤◌, List, [], ◌++◌, ◌∷◌, length, false, true, None, IfOk, IfSome, OnOk};
+ghost use Rattle.sig_base.specs.declared.value.Known.{Known};
 ghost use Rattle.sig_base.specs.declared.value.Outcome.{Outcome};
 ghost use Rattle.sig_base.specs.declared.value.Outcome.TheVariants.{Good};
 ghost use Rattle.sig_base.specs.declared.value.Value.TheVariants as value;
-ghost use Rattle.sig_nodes.specs.declared.answers.Asked.TheVariants.{Ended};
-ghost use Rattle.sig_nodes.specs.Answers.{IsAnswerOf};
-ghost use Rattle.sig_graph.specs.Reading.{AsksFor, HasReadHere, IsOnward, IsReadWhere, IsReady, IsReadyPart, IsWalked};
+ghost use Rattle.sig_graph.specs.Reading.{AsksFor, HasReadHere, IsOnward, IsReached, IsReadWhere, IsReady, IsReadyPart, IsWalked, reached_steps};
 ghost use Rattle.sig_nodes.specs.Reading.{IsNeeded};
 ghost use Rattle.sig_formula.specs.Evaluation.{known_at};
 ghost use Rattle.sig_formula.specs.Operations.{IsPartTold};
@@ -31,13 +30,24 @@ enum Onward {
     Left,
 }
 
+/// What a formula comes to that is read on.
+#[derive(Clone, Copy)]
+pub enum Reached {
+    /// It came to its end.
+    Ended,
+    /// It needs a slot whose signal isn't read at once.
+    Needs(u32),
+    /// Nothing is told of it.
+    Left,
+}
+
 /// What a formula comes to that is gone over once.
 #[derive(Clone, Copy)]
 enum Walked {
     /// It came to its end.
     Ended,
     /// It needs a slot that is left to who settles what is below.
-    Left,
+    Left(u32),
     /// Nothing is told: it is to be asked for each slot.
     Open,
 }
@@ -154,11 +164,11 @@ fn read_anew(
     reads: &mut Vec<NodeId>,
     outcome: &mut Outcome,
     looked: &mut u128,
-) -> Result<bool, NoMemory>
+) -> Result<Reached, NoMemory>
     ensures read { OnOk result (HasReadHere nodes.now.items marks.now.marked computation.now.recipe known.old.items reads.old.items known.new.items reads.new.items) }
     ensures even { length known.new.items + length reads.old.items ≡ length known.old.items + length reads.new.items }
-    ensures ended { IfOk result (λ e. e ≡ true → IsAnswerOf computation.now.recipe known.new.items Ended outcome.new) }
-    ensures steps { IfOk result (λ e. looked.new + length known.old.items ≤ looked.old + length known.new.items + (if e then 1 else 0)) }
+    ensures reached { IfOk result (λ r. IsReached r computation.now.recipe known.new.items outcome.new) }
+    ensures steps { IfOk result (λ r. looked.new + length known.old.items ≤ looked.old + length known.new.items + reached_steps r) }
 {
     for _ in 0..computation.slots().len() + 1 {
         match read_next(nodes, marks, computation, known, reads, outcome)? {
@@ -167,12 +177,25 @@ fn read_anew(
             }
             Onward::Ended => {
                 *looked = counted(*looked);
-                return Ok(true);
+                return Ok(Reached::Ended);
             }
-            Onward::Left => return Ok(false),
+            Onward::Left => return Ok(Reached::Left),
         }
     }
-    Ok(false)
+    Ok(Reached::Left)
+}
+
+// What a formula comes to that needs a slot which is left: that is told, and counted, where it is one of its slots.
+#[inline(always)]
+fn slot_left(computation: &Computation, slot: u32, looked: &mut u128) -> Reached
+    ensures reached { (known : List Known) (o : Outcome) → IsNeeded computation.now.recipe known slot → IsReached result computation.now.recipe known o }
+    ensures steps { looked.new ≤ looked.old + reached_steps result }
+{
+    let Some(_id) = computation.slot(slot) else {
+        return Reached::Left;
+    };
+    *looked = counted(*looked);
+    Reached::Needs(slot)
 }
 
 // What is told of a slot by its signal: the whole number that this is read as at once; nothing where it is read as another value.
@@ -270,7 +293,7 @@ fn read_alone(
             put_number(number, outcome);
             Ok(Walked::Ended)
         }
-        Part::Slot(_) => Ok(Walked::Left),
+        Part::Slot(slot) => Ok(Walked::Left(slot)),
         Part::Open => Ok(Walked::Open),
     }
 }
@@ -296,7 +319,7 @@ fn read_pair(
 {
     let first = match read_part(nodes, marks, computation, left, known, reads)? {
         Part::Number(number) => number,
-        Part::Slot(_) => return Ok(Walked::Left),
+        Part::Slot(slot) => return Ok(Walked::Left(slot)),
         Part::Open => return Ok(Walked::Open),
     };
     match read_part(nodes, marks, computation, right, known, reads)? {
@@ -306,7 +329,7 @@ fn read_pair(
             }
             Ok(Walked::Open)
         }
-        Part::Slot(_) => Ok(Walked::Left),
+        Part::Slot(slot) => Ok(Walked::Left(slot)),
         Part::Open => Ok(Walked::Open),
     }
 }
@@ -357,8 +380,9 @@ fn counted_by(looked: u128, more: usize) -> u128
     looked.saturating_add(more as u128)
 }
 
-/// Goes on with the evaluation of a formula as long as the slot that it needs next is read at once, and tells whether it came to its end:
-/// then its outcome stands in its place. Each answer that it goes on with is a counted step.
+/// Goes on with the evaluation of a formula as long as the slot that it needs next is read at once, and tells what it comes to: where that
+/// is its end, its outcome stands in its place. Each answer that it goes on with, or that it tells, is a counted step.
+#[inline(always)]
 pub(crate) fn read_slots(
     nodes: &Nodes,
     marks: &Marks,
@@ -367,11 +391,11 @@ pub(crate) fn read_slots(
     reads: &mut Vec<NodeId>,
     outcome: &mut Outcome,
     looked: &mut u128,
-) -> Result<bool, NoMemory>
+) -> Result<Reached, NoMemory>
     ensures read { OnOk result (HasReadHere nodes.now.items marks.now.marked computation.now.recipe known.old.items reads.old.items known.new.items reads.new.items) }
     ensures even { length known.new.items + length reads.old.items ≡ length known.old.items + length reads.new.items }
-    ensures ended { IfOk result (λ e. e ≡ true → IsAnswerOf computation.now.recipe known.new.items Ended outcome.new) }
-    ensures steps { IfOk result (λ e. looked.new + length known.old.items ≤ looked.old + length known.new.items + (if e then 1 else 0)) }
+    ensures reached { IfOk result (λ r. IsReached r computation.now.recipe known.new.items outcome.new) }
+    ensures steps { IfOk result (λ r. looked.new + length known.old.items ≤ looked.old + length known.new.items + reached_steps r) }
 {
     let before = known.len();
     let walked = walk(nodes, marks, computation, known, reads, outcome)?;
@@ -379,9 +403,9 @@ pub(crate) fn read_slots(
     match walked {
         Walked::Ended => {
             *looked = counted(*looked);
-            Ok(true)
+            Ok(Reached::Ended)
         }
-        Walked::Left => Ok(false),
+        Walked::Left(slot) => Ok(slot_left(computation, slot, looked)),
         Walked::Open => read_anew(nodes, marks, computation, known, reads, outcome, looked),
     }
 }

@@ -11,7 +11,7 @@ use Rattle.sig_graph.specs.States as states
 use Rattle.sig_graph.specs.States.{is_computing}
 use Rattle.sig_computed.specs.Steps.{Frame, frame_names}
 use Rattle.sig_computed.specs.Notes.{Note, note_of, IsNoteGiven}
-use Rattle.sig_computed.specs.Reading.{read_steps}
+use Rattle.sig_computed.specs.Reading.{steps_on}
 use Rattle.sig_computed.specs.Scenes.{Scene, Settles}
 use Rattle.sig_computed.specs.Turns.{first_stack, notes_of, HasFirst}
 use Rattle.sig_computed.specs.Views.{frame_of, held, move_of, tops}
@@ -95,7 +95,7 @@ apply-requires-clause-computing g c =
     let mv = move_of c.in_ok-turn.turn c.next_turn.new.frame in
     let e = c.in_ok-turn.ensures.turned in
     subst (λ n. is_computing c.next_turn.new.graph.state n ≡ true) (sym c.in_ok-turn.ensures.id)
-    (turn_move c.args.graph.now (said_on c.loop-going.graph (read_steps f.phase e.more)) c.next_turn.new.graph (frame_on f e.more) rest c.loop-going.visited mv
+    (turn_move c.args.graph.now (said_on c.loop-going.graph (steps_on f.phase e.more e.left)) c.next_turn.new.graph (frame_on f e.more e.left) rest c.loop-going.visited mv
     (turn_on c.args.graph.now c.loop-going.graph c.next_turn.new.graph _ f rest c.loop-going.visited mv i.signals (subst (HasStack c.loop-going.graph) up i.frames) e)).computing
 
 pub apply-requires-clause-can : goal.apply-requires-clause-can
@@ -106,7 +106,7 @@ apply-requires-clause-can g c =
     let rest = tops c.loop-going.stack.items in
     let mv = move_of c.in_ok-turn.turn c.next_turn.new.frame in
     let e = c.in_ok-turn.ensures.turned in
-    (turn_move c.args.graph.now (said_on c.loop-going.graph (read_steps f.phase e.more)) c.next_turn.new.graph (frame_on f e.more) rest c.loop-going.visited mv
+    (turn_move c.args.graph.now (said_on c.loop-going.graph (steps_on f.phase e.more e.left)) c.next_turn.new.graph (frame_on f e.more e.left) rest c.loop-going.visited mv
     (turn_on c.args.graph.now c.loop-going.graph c.next_turn.new.graph _ f rest c.loop-going.visited mv i.signals (subst (HasStack c.loop-going.graph) up i.frames) e)).can
 
 pub loop-going-smaller : goal.loop-going-smaller
@@ -117,19 +117,19 @@ loop-going-smaller g c =
     let rest = tops c.loop-going.stack.items in
     let mv = move_of c.in_ok-turn.turn c.next_turn.new.frame in
     let e = c.in_ok-turn.ensures.turned in
-    let said = said_on c.loop-going.graph (read_steps f.phase e.more) in
+    let said = said_on c.loop-going.graph (steps_on f.phase e.more e.left) in
     let next = held c.in_ok-going.going c.apply.new.frame (tops c.apply.new.stack.items) in
     let less : work c.args.graph.now.state.signals c.apply.new.graph.state.memos next c.apply.new.visited
-    < work c.args.graph.now.state.signals c.loop-going.graph.state.memos (frame_on f e.more ∷ rest) c.loop-going.visited =
-    turn_less c.args.graph.now said c.next_turn.new.graph (frame_on f e.more) rest c.loop-going.visited mv
+    < work c.args.graph.now.state.signals c.loop-going.graph.state.memos (frame_on f e.more e.left ∷ rest) c.loop-going.visited =
+    turn_less c.args.graph.now said c.next_turn.new.graph (frame_on f e.more e.left) rest c.loop-going.visited mv
     (turn_on c.args.graph.now c.loop-going.graph c.next_turn.new.graph _ f rest c.loop-going.visited mv i.signals (subst (HasStack c.loop-going.graph) up i.frames) e)
     c.apply.new.graph next c.apply.new.visited
-    (made_by c.next_turn.new.graph c.apply.new.graph (frame_on f e.more) rest next c.loop-going.visited c.apply.new.visited mv c.next_turn.new.frame.id
+    (made_by c.next_turn.new.graph c.apply.new.graph (frame_on f e.more e.left) rest next c.loop-going.visited c.apply.new.visited mv c.next_turn.new.frame.id
     c.in_ok-turn.ensures.id c.in_ok-going.ensures.stack
     (λ m. c.in_ok-going.ensures.visited m ∙ visits_same c.next_turn.new.frame.id m mv c.next_turn.new.visited c.loop-going.visited (c.in_ok-turn.ensures.visited m)) c.in_ok-going.ensures.graph) in
-    let most : work c.args.graph.now.state.signals c.loop-going.graph.state.memos (frame_on f e.more ∷ rest) c.loop-going.visited
+    let most : work c.args.graph.now.state.signals c.loop-going.graph.state.memos (frame_on f e.more e.left ∷ rest) c.loop-going.visited
     ≤ work c.args.graph.now.state.signals c.loop-going.graph.state.memos (f ∷ rest) c.loop-going.visited =
-    work_on c.args.graph.now c.loop-going.graph f rest c.loop-going.visited e.more i.signals e.next in
+    work_on c.args.graph.now c.loop-going.graph f rest c.loop-going.visited e.more e.left i.signals e.next e.leaves in
     subst (λ fs. work c.args.graph.now.state.signals c.apply.new.graph.state.memos next c.apply.new.visited
     < work c.args.graph.now.state.signals c.loop-going.graph.state.memos fs c.loop-going.visited) (sym up)
     (omega (arith, less, most))
@@ -146,8 +146,8 @@ loop-going-preserved g c =
     let m = c.in_ok-going.ensures.graph in
     let next = held c.in_ok-going.going c.apply.new.frame (tops c.apply.new.stack.items) in
     let stack = subst (HasStack c.loop-going.graph) up i.frames in
-    let said = said_on c.loop-going.graph (read_steps f.phase e.more) in
-    let on = frame_on f e.more in
+    let said = said_on c.loop-going.graph (steps_on f.phase e.more e.left) in
+    let on = frame_on f e.more e.left in
     let t : IsTurn c.args.graph.now said c.next_turn.new.graph on rest c.loop-going.visited mv =
     turn_on c.args.graph.now c.loop-going.graph c.next_turn.new.graph _ f rest c.loop-going.visited mv i.signals stack e in
     let d = made_by c.next_turn.new.graph c.apply.new.graph on rest next c.loop-going.visited c.apply.new.visited mv c.next_turn.new.frame.id c.in_ok-turn.ensures.id
@@ -156,7 +156,7 @@ loop-going-preserved g c =
     let asked = subst (HasAsked c.args.graph.now.state.signals _ _ (length c.args.notes.now.items) (length c.loop-going.notes.items)) up i.asked in
     let can = frame_can c.args.graph.now c.loop-going.graph c.loop-going.frame c.loop-going.stack.items c.loop-going.frame.id _ _ (length c.args.notes.now.items) (length c.loop-going.notes.items) i.signals
     c.made-made.ensures.few stack c.requires.there c.requires.room (omega arith) (omega arith) asked in
-    let places = c.in_ok-turn.ensures.asked ∙ places_on c.loop-going.graph.state c.loop-going.frame.id f.phase e.more _ e.next in
+    let places = c.in_ok-turn.ensures.asked ∙ places_on c.loop-going.graph.state c.loop-going.frame.id f.phase e.more e.left _ e.next e.leaves in
     let noted : map note_of c.apply.new.notes.items ≡ map note_of c.loop-going.notes.items ++ notes_of c.loop-going.frame.id mv =
     c.in_ok-going.ensures.notes ∙ ap (λ n. map note_of c.loop-going.notes.items ++ notes_of n mv) c.in_ok-turn.ensures.id in
     let count = notes_count c.loop-going.frame.id mv c.loop-going.notes.items c.apply.new.notes.items noted in
@@ -176,12 +176,12 @@ loop-going-preserved g c =
       asked = turn_asked c.args.graph.now said c.next_turn.new.graph on rest c.loop-going.visited mv t c.apply.new.graph next
           c.apply.new.visited d _ _ _ (length c.args.notes.now.items) (length c.loop-going.notes.items) (length c.apply.new.notes.items)
           c.made-made.ensures.few can places count
-          (asked_on c.args.graph.now.state.signals _ _ (length c.args.notes.now.items) (length c.loop-going.notes.items) f rest e.more asked);
+          (asked_on c.args.graph.now.state.signals _ _ (length c.args.notes.now.items) (length c.loop-going.notes.items) f rest e.more e.left asked);
       whole = λ hosts all kept. turn_whole c.args.graph.now said c.next_turn.new.graph on rest c.loop-going.visited mv t c.apply.new.graph next
           c.apply.new.visited d hosts c.args.graph.now.state.memos kept c.args.graph.now.state.looked _ _ _ (c.args.id ∷ [])
           (map note_of c.args.notes.now.items) (map note_of c.loop-going.notes.items) (map note_of c.apply.new.notes.items) noted
           can places (e.turn hosts (i.answers hosts all))
-          (whole_on c.args.graph.now c.loop-going.graph f rest c.loop-going.visited e.more i.signals stack e.next hosts c.args.graph.now.state.memos kept
+          (whole_on c.args.graph.now c.loop-going.graph f rest c.loop-going.visited e.more e.left i.signals stack e.next e.leaves hosts c.args.graph.now.state.memos kept
           c.args.graph.now.state.looked _ _ (c.args.id ∷ []) (map note_of c.args.notes.now.items) (map note_of c.loop-going.notes.items)
           (subst (IsWhole hosts c.args.graph.now.state.signals c.args.graph.now.state.memos kept c.args.graph.now.state.looked _ (c.args.id ∷ [])
           c.loop-going.graph.state.memos c.loop-going.graph.state.looked _ (map note_of c.args.notes.now.items) (map note_of c.loop-going.notes.items) c.loop-going.visited) up (i.whole hosts all kept)));

@@ -5,7 +5,7 @@ use Rattle.sig_base.specs.declared.value.Value.TheVariants as value
 use Rattle.sig_formula.specs.declared.parts.Part.{Part}
 use Rattle.sig_formula.specs.Operations.{IsPartTold}
 use Rattle.sig_formula.specs.Trees.{tree}
-use Rattle.sig_graph.proofs.ReadOn.{alone_asks, alone_ends}
+use Rattle.sig_graph.proofs.ReadOn.{alone_asks, alone_ends, alone_left}
 use Rattle.sig_graph.proofs.reading.read_alone.Goals as goal
 
 pub read_part-requires : goal.read_part-requires
@@ -20,3 +20,10 @@ returns-in-Number-clause-walked c =
     let fits : FitsSigned w64 c.in-Number.number = search rules in
     alone_ends c.args.computation.now.recipe t known (value.Int z) c.put_number.new.outcome c.requires good
     (c.put_number.ensures ∙ ap (λ m. Good (value.Int m)) (to_z-of_z w64 z fits))
+
+pub returns-in-Slot-clause-walked : goal.returns-in-Slot-clause-walked
+returns-in-Slot-clause-walked c =
+    let t = tree c.args.formula.now in
+    let known = c.read_part.new.known.items in
+    alone_left c.args.computation.now.recipe t known c.in-Slot.slot c.requires
+    (subst (λ (p : Part). IsPartTold p t known) c.in-Slot.is c.in_ok-number.ensures.part)

@@ -5,7 +5,7 @@ use Rattle.sig_formula.specs.declared.parts.Part.{Part}
 use Rattle.sig_formula.specs.Evaluation.{operated}
 use Rattle.sig_formula.specs.Operations.{IsPartTold}
 use Rattle.sig_formula.specs.Trees.{tree}
-use Rattle.sig_graph.proofs.ReadOn.{first_asks, pair_answers, read_both, second_asks}
+use Rattle.sig_graph.proofs.ReadOn.{first_asks, first_left, pair_answers, read_both, second_asks, second_left}
 use Rattle.sig_graph.proofs.reading.read_pair.Goals as goal
 
 pub read_part-requires : goal.read_part-requires
@@ -61,3 +61,21 @@ returns-in-Open-2-clause-read c =
     read_both c.args.nodes.now.items c.args.marks.now.marked c.args.computation.now.recipe c.args.known.now.items c.read_part.new.known.items
     c.read_part-2.new.known.items c.args.reads.now.items c.read_part.new.reads.items c.read_part-2.new.reads.items c.in_ok-number.ensures.read
     c.in_ok-second.ensures.read
+
+pub returns-in-Slot-clause-walked : goal.returns-in-Slot-clause-walked
+returns-in-Slot-clause-walked c =
+    let a = tree c.args.left.now in
+    let known = c.read_part.new.known.items in
+    first_left c.args.computation.now.recipe c.args.op a (tree c.args.right.now) known c.in-Slot.slot c.requires.formula
+    (subst (λ (p : Part). IsPartTold p a known) c.in-Slot.is c.in_ok-number.ensures.part)
+
+pub returns-in-Slot-2-clause-walked : goal.returns-in-Slot-2-clause-walked
+returns-in-Slot-2-clause-walked c =
+    let a = tree c.args.left.now in
+    let b = tree c.args.right.now in
+    let known = c.read_part.new.known.items in
+    let known' = c.read_part-2.new.known.items in
+    second_left c.args.nodes.now.items c.args.marks.now.marked c.args.computation.now.recipe known known' c.read_part.new.reads.items
+    c.read_part-2.new.reads.items c.args.op a b (value.Int c.in-Number.number) c.in-Slot-2.slot c.requires.formula c.requires.free
+    (subst (λ (p : Part). IsPartTold p a known) c.in-Number.is c.in_ok-number.ensures.part) c.in_ok-second.ensures.read
+    (subst (λ (p : Part). IsPartTold p b known') c.in-Slot-2.is c.in_ok-second.ensures.part)

@@ -1,15 +1,13 @@
-use Rattle.std.proofs.Common.{◌≡◌, ◌+◌, ◌≤◌, true, length, refl, sym, ap, ◌∙◌, subst, if◌then◌else◌}
+use Rattle.std.proofs.Common.{◌≡◌, ◌+◌, ◌≤◌, true, length, refl, sym, ap, ◌∙◌, subst}
 use Rattle.signal_model.specs.Signals.{Stands, is_in, standing}
-use Rattle.sig_nodes.specs.declared.answers.Asked.TheVariants.{Ended}
 use Rattle.sig_nodes.specs.declared.node.Body.{Body}
-use Rattle.sig_nodes.specs.Answers.{IsAnswerHere}
 use Rattle.sig_nodes.specs.Nodes.{slots_body, stands_of}
 use Rattle.sig_graph.specs.Parts.{state_of}
-use Rattle.sig_graph.specs.Reading.{HasReadOn}
+use Rattle.sig_graph.specs.Reading.{HasReadOn, IsReachedHere, reached_steps}
 use Rattle.sig_graph.specs.States.{Seen, is_given}
 use Rattle.sig_graph.proofs.Consistency.{became, below_given}
 use Rattle.sig_graph.proofs.Parts.{stands}
-use Rattle.sig_graph.proofs.ReadOn.{names_read, no_read_on, read_on_found}
+use Rattle.sig_graph.proofs.ReadOn.{names_read, no_read_on, reached_found, read_on_found}
 use Rattle.sig_graph.proofs.graph.Graph.read_on.Goals as goal
 
 pub returns-in_default-clause-read : goal.returns-in_default-clause-read
@@ -22,13 +20,16 @@ returns-clause-read c =
     c.self.view_is
     (read_on_found c.self.inside.nodes.items c.self.inside.generation c.self.inside.looked c.self.inside.worn c.args.id c.self.inside.marks
     c.in-Some.computation.now c.args.known.now.items c.read_slots.new.known.items c.args.reads.now.items c.read_slots.new.reads.items
-    c.self.invariant.marks c.in-Some.ensures.some c.in_ok-ended.ensures.read)
+    c.self.invariant.marks c.in-Some.ensures.some c.in_ok-reached.ensures.read)
 
-pub returns-clause-ended : goal.returns-clause-ended
-returns-clause-ended c = λ e.
+pub returns-clause-reached : goal.returns-clause-reached
+returns-clause-reached c =
     let here = sym (stands c.self.inside.nodes.items c.args.id ∙ ap (stands_of c.args.id) c.in-Some.ensures.some)
     ∙ ap (λ (s : Seen). standing s.state.signals c.args.id) c.self.view_is in
-    subst (λ (st : Stands). IsAnswerHere st c.read_slots.new.known.items Ended c.read_slots.new.outcome) here (c.in_ok-ended.ensures.ended e)
+    let known = c.read_slots.new.known.items in
+    let o = c.read_slots.new.outcome in
+    subst (λ (st : Stands). IsReachedHere c.in_ok-reached.reached st known o) here
+    (reached_found c.in_ok-reached.reached (record { name = c.args.id; recipe = c.in-Some.computation.now.recipe }) known o c.in_ok-reached.ensures.reached)
 
 pub returns-clause-given : goal.returns-clause-given
 returns-clause-given c = λ all.
@@ -38,12 +39,12 @@ returns-clause-given c = λ all.
     c.read_slots.new.known.items c.args.reads.now.items c.read_slots.new.reads.items
     (λ m q. below_given c.args.self.now st c.self.inside.seats.holders (length xs) m c.self.view_is
     (c.self.invariant.fields.slots c.args.id m (ap (λ (b : Body). is_in m (slots_body b)) c.in-Some.ensures.some ∙ q)))
-    c.in_ok-ended.ensures.read all
+    c.in_ok-reached.ensures.read all
 
 pub returns-clause-steps : goal.returns-clause-steps
 returns-clause-steps c =
-    subst (λ n. c.read_slots.new.looked + length c.args.known.now.items ≤ n + length c.read_slots.new.known.items + (if c.in_ok-ended.ended then 1 else 0))
-    (ap (λ (s : Seen). s.state.looked) c.self.view_is) c.in_ok-ended.ensures.steps
+    subst (λ n. c.read_slots.new.looked + length c.args.known.now.items ≤ n + length c.read_slots.new.known.items + reached_steps c.in_ok-reached.reached)
+    (ap (λ (s : Seen). s.state.looked) c.self.view_is) c.in_ok-reached.ensures.steps
 
 pub returns-clause-after : goal.returns-clause-after
 returns-clause-after c =
