@@ -2,6 +2,7 @@
 use Rattle.std.specs.Prelude.{◌≡◌, ◌<◌, ◌+◌, ◌^◌, ◌&&◌, ◌||◌, ℕ, zero, suc, Bool, true, false, List, [], ◌∷◌, ◌++◌, length, map, Option, Some, None}
 use Rattle.std.specs.Option.{unwrap_or}
 use Rattle.sig_base.specs.Tables.{Table}
+use Rattle.sig_formula.specs.Trees.{Tree}
 use Rattle.sig_formula.specs.declared.formula.RowRef.{RowRef}
 use Rattle.tpl_model.specs.Lines.{Block, empty, text, tag, choice, each, attempt}
 use Rattle.tpl_hearing.specs.Heard.{Grows, Outcomes}
@@ -65,6 +66,21 @@ inner_in (choice f one other rest) true = one
 inner_in (choice f one other rest) false = other
 inner_in (each f inner rest) first = inner
 inner_in b first = b
+
+-- whether the first line is a text
+abbrev pub is_text : Block → Bool
+is_text (text n f rest) = true
+is_text b = false
+
+-- it has this formula
+abbrev pub IsText : Block → Tree → Type 0
+IsText (text n f rest) g = f ≡ g
+IsText b g = ⊥
+
+-- the attributes of the first line; any line but an element has none
+abbrev pub attributes_in : Block → List (List ℕ × Tree)
+attributes_in (tag n name xs inner rest) = xs
+attributes_in b = []
 
 -- the lines of the first part of what is tried; any other line has itself in its place
 abbrev pub first_part : Block → Block

@@ -5,4 +5,3 @@ pub mod Listed
 pub mod Nameless
 pub mod Rounds
 pub mod Turns
-pub mod Fronts

@@ -5,6 +5,7 @@ mod names;
 mod outcomes;
 
 pub use again::{listen_again, listen_all_again};
+pub(crate) use again::{listen_all_here, listen_here};
 pub use formulas::{listen, listen_all};
 pub(crate) use names::{put_all, put_each};
 pub(crate) use outcomes::{row_at, row_count, truth_of};

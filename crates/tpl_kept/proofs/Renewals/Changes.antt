@@ -34,7 +34,7 @@ use Rattle.tpl_kept.specs.declared.renewing.parts.First.TheVariants as start
 -- ---- all of them stay, or are made
 
 -- what tells of lines whichever parts they have
-tells_whole : (b : Block) (links : List ℕ) (at : Option RowRef) (before : Outcomes) (m : PageMemo) (c : Change) →
+pub tells_whole : (b : Block) (links : List ℕ) (at : Option RowRef) (before : Outcomes) (m : PageMemo) (c : Change) →
     ((Parts : Bool → Change → Change → Type 0) → by_change (WasMade (lines_memo b) links at before m) Parts c) → Tells b links at before m c
 tells_whole empty links at before m c x = tt
 tells_whole (text n f rest) links at before unread c x = tt

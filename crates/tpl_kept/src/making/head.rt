@@ -1,16 +1,17 @@
 // What is heard of the first of some lines, where the lines inside it and behind it are made, and how these are put together.
-ghost use Rattle.std.specs.Prelude.{◌≡◌, ◌<◌, [], ◌∷◌, ◌++◌, length, map, IfOk, IfSome, OnOk};
+ghost use Rattle.std.specs.Prelude.{◌≡◌, ◌<◌, [], ◌∷◌, ◌++◌, length, map, true, IfOk, IfSome, OnOk};
 ghost use Rattle.std.specs.Option.{option_copied};
+ghost use Rattle.sig_formula.specs.Trees.{tree};
 ghost use Rattle.tpl_blocks.specs.Blocks.{block};
 ghost use Rattle.tpl_model.specs.KeptLines.Kept.{kept};
 ghost use Rattle.tpl_model.specs.KeptLines.Memos.{table_in};
 ghost use Rattle.tpl_model.specs.KeptLines.Kept.{heard_of};
 ghost use Rattle.tpl_model.specs.PageUpdates.PageMemos.{any_fault};
-ghost use Rattle.tpl_kept.specs.Heads.{behind, closed, first_part, inner_in, last_of, last_read, places_from, places_in, places_tried, rest_in, second_part, shows_first, unless_ended, IsAttempted, IsRow};
+ghost use Rattle.tpl_kept.specs.Heads.{attributes_in, behind, closed, first_part, inner_in, is_text, last_of, last_read, places_from, places_in, places_tried, rest_in, second_part, shows_first, unless_ended, IsAttempted, IsRow, IsText};
 
 use crate::listening::{row_at, row_count, truth_of};
-use sig_base::{NoMemory, Outcome};
-use sig_formula::RowRef;
+use sig_base::{NoMemory, Outcome, Text};
+use sig_formula::{Formula, RowRef};
 use std::alloc::Global;
 use std::slice;
 use tpl_blocks::Block;
@@ -106,6 +107,31 @@ pub(crate) fn inner_of(lines: &Block, first: bool) -> &Block
         Block::Choice(_, one, other, _) => { if first { one } else { other } }
         Block::Each(_, inner, _) => inner,
         _ => lines,
+    }
+}
+
+/// The formula of a text.
+pub(crate) fn formula_of(lines: &Block) -> &Formula
+    requires { is_text (block lines.now) ≡ true }
+    ensures { IsText (block lines.now) (tree result.now) }
+{
+    match lines {
+        Block::Text(_, formula, _) => formula,
+        Block::Empty => unreachable!(),
+        Block::Tag(_, _, _, _, _) => unreachable!(),
+        Block::Choice(_, _, _, _) => unreachable!(),
+        Block::Each(_, _, _) => unreachable!(),
+        Block::Attempt(_, _, _) => unreachable!(),
+    }
+}
+
+/// The attributes of an element.
+pub(crate) fn attributes_of(lines: &Block) -> &[(Text, Formula)]
+    ensures { map (λ a. (a.0, tree a.1)) result.now ≡ attributes_in (block lines.now) }
+{
+    match lines {
+        Block::Tag(_, _, attributes, _, _) => attributes,
+        _ => &[],
     }
 }
 

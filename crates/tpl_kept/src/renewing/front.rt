@@ -1,115 +1,54 @@
-// Lines before the first one that has changed. They stay as they are, and aren't taken apart.
-ghost use Rattle.std.specs.Prelude.{◌≡◌, ◌<◌, length, true, IfOk, IfSome, OnOk};
+// What is kept of lines, brought up to date where it is kept: texts and elements aren't taken apart.
+ghost use Rattle.std.specs.Prelude.{◌≡◌, ◌<◌, ◌∷◌, [], length, map, true, IfOk, IfSome, OnOk};
 ghost use Rattle.std.specs.Option.{option_copied};
-ghost use Rattle.tpl_model.specs.PageUpdates.PageMemos as model;
+ghost use Rattle.sig_formula.specs.Trees.{tree};
 ghost use Rattle.tpl_blocks.specs.Blocks.{block};
 ghost use Rattle.tpl_hearing.specs.Heard.{scene, CanSettle, Hears};
 ghost use Rattle.tpl_hearing.specs.HeardAgain.{AreCompared};
 ghost use Rattle.tpl_model.specs.KeptLines.Kept.{heard_of, kept};
-ghost use Rattle.tpl_model.specs.KeptLines.Memos.{lines_memo, Makes};
-ghost use Rattle.tpl_model.specs.KeptLines.Changes.{changed, nothing, over, Tells};
+ghost use Rattle.tpl_model.specs.KeptLines.Memos.{lines_memo, Listens, Makes};
+ghost use Rattle.tpl_model.specs.KeptLines.Before.{WasListened, WasMade};
+ghost use Rattle.tpl_model.specs.KeptLines.Changes.{changed, Tells};
 ghost use Rattle.tpl_kept.specs.Renewals.{WasMadeIfRead};
-ghost use Rattle.tpl_kept.specs.Fronts.{is_text, StaysFirst};
 
-use crate::making::rest_of;
-use crate::renewing::parts::Renewed;
-use crate::renewing::update::renew_on;
+use crate::listening::{listen_all_here, listen_here};
+use crate::making::{attributes_of, formula_of, inner_of, rest_of};
+use crate::renewing::looking::{Look, look_behind, look_within, looks_first};
+use crate::renewing::parts::{Renewed, unread};
+use crate::renewing::update::{renew_on, stays};
 use sig_base::{NoMemory, NodeId};
 use sig_computed::RunNote;
-use sig_formula::RowRef;
+use sig_formula::{Formula, RowRef};
 use sig_graph::Graph;
 use sig_host::{Lent, Shelf};
 use std::alloc::Global;
+use std::mem;
 use tpl_blocks::Block;
 use tpl_hearing::{Outcomes, Rehearing};
 use tpl_model::{Change, Heard, PageMemo};
 
-// Whether what is kept begins with a text whose names were all heard and have the outcomes of before. They are looked for from a place on.
-fn stays_first(before: &Outcomes, hearing: &Rehearing, near: usize, memo: &PageMemo) -> bool
-    requires { AreCompared before.now hearing.now }
-    ensures { result ≡ true → StaysFirst before.now hearing.now.heard (kept memo.now) }
-{
-    match memo {
-        PageMemo::Line(line, _) => hearing.are_same(before, near, &line.names),
-        _ => false,
-    }
-}
-
-// What is kept of lines that were brought up to date, at the place where it was kept before, and what became of it.
-#[derive(Drop)]
-struct Behind {
-    memo: Box<PageMemo>,
-    change: Change,
-}
-
-// What was brought up to date, at this place.
-fn kept_at(place: Box<PageMemo>, renewed: Renewed) -> Behind
-    ensures kept { result.memo.value ≡ renewed.memo }
-    ensures change { result.change ≡ renewed.change }
-{
-    let Renewed { memo, change } = renewed;
-    let mut all = place;
-    let _blank = Box::replace(&mut all, memo);
-    Behind { memo: all, change }
-}
-
-// The text with which what is kept begins, what is kept behind it, and the place where all of it was kept.
-#[tactic(auto, using(tpl_model::proofs::MemoEquations::kept_unread, tpl_model::proofs::MemoEquations::kept_blank, tpl_model::proofs::MemoEquations::kept_line, tpl_model::proofs::MemoEquations::kept_element, tpl_model::proofs::MemoEquations::kept_branch, tpl_model::proofs::MemoEquations::kept_loop, tpl_model::proofs::MemoEquations::kept_either))]
-fn text_apart(memo: Box<PageMemo>) -> (Heard, Box<PageMemo>, Box<PageMemo>)
-    requires { is_text (kept memo.value) ≡ true }
-    ensures { kept memo.value ≡ model.line (heard_of result.0) (kept result.1.value) }
-{
-    let mut place = memo;
-    match Box::replace(&mut place, PageMemo::blank()) {
-        PageMemo::Line(line, later) => (line, later, place),
-        PageMemo::Unread => unreachable!(),
-        PageMemo::Blank => unreachable!(),
-        PageMemo::Element(_, _, _) => unreachable!(),
-        PageMemo::Branch(_, _, _) => unreachable!(),
-        PageMemo::Loop(_, _, _) => unreachable!(),
-        PageMemo::Either(_, _, _) => unreachable!(),
-    }
-}
-
-// Puts a text that stays before what was brought up to date behind it, at the place where it was kept.
-fn put_text(
-    alloc: Global,
-    text: Heard,
-    behind: Behind,
-    place: Box<PageMemo>,
-) -> Result<Behind, NoMemory>
-    ensures kept { IfOk result (λ r. kept r.memo.value ≡ model.line (heard_of text) (kept behind.memo.value)) }
-    ensures changed { IfOk result (λ r. changed r.change ≡ over true nothing (changed behind.change)) }
-{
-    let Behind { memo, change } = behind;
-    let change = Change::over(alloc, true, Vec::new(alloc), change)?;
-    let mut all = place;
-    let _blank = Box::replace(&mut all, PageMemo::Line(text, memo));
-    Ok(Behind { memo: all, change })
-}
-
-// Brings what is kept of lines up to date: the texts with which they begin stay as long as all their names were heard already and have the outcomes
-// of before, and from there on the others are renewed. The names are looked for from a place on. Its clauses are those of renewing.
-fn renew_behind(
+// Hears a text again, where what was heard of it is kept: where all its names were heard already and have the outcomes of before, nothing is
+// heard. They are looked for from a place on. Its clauses are those of a formula that is heard again.
+fn hear_text(
     alloc: Global,
     graph: &mut Graph,
     shelf: &mut Shelf,
     before: &Outcomes,
     hearing: &mut Rehearing,
-    lines: &Block,
+    formula: &Formula,
     near: usize,
-    memo: Box<PageMemo>,
+    line: &mut Heard,
     links: &[NodeId],
     row: Option<&RowRef>,
     notes: &mut Vec<RunNote>,
-) -> Result<Behind, NoMemory>
+) -> Result<bool, NoMemory>
     requires place { IfSome row (λ r. r.now.place < length r.now.rows.rows) }
     requires can { CanSettle (scene graph.old (⟦<Shelf as Lent>⟧.asked shelf.old) notes.old.items) }
     requires counted { ⟦<Shelf as Lent>⟧.counted shelf.old }
     requires compared { AreCompared before.now hearing.old }
-    requires was { WasMadeIfRead (lines_memo (block lines.now)) links.now (option_copied row) before.now (kept memo.value) }
-    ensures made { IfOk result (λ r. Makes (lines_memo (block lines.now)) links.now (option_copied row.entry) hearing.old.heard hearing.new.heard (kept r.memo.value)) }
-    ensures told { IfOk result (λ r. Tells (block lines.now) links.now (option_copied row.entry) before.now (kept r.memo.value) (changed r.change)) }
+    requires was { WasListened (tree formula.now) links.now (option_copied row) before.now (heard_of line.old) }
+    ensures heard { OnOk result (Listens (tree formula.now) links.now (option_copied row.entry) hearing.old.heard hearing.new.heard (heard_of line.new)) }
+    ensures same { IfOk result (λ s. s ≡ true → WasListened (tree formula.now) links.now (option_copied row.entry) before.now (heard_of line.new)) }
     ensures after { OnOk result (Hears
         (scene graph.old (⟦<Shelf as Lent>⟧.asked shelf.old) notes.old.items) (scene graph.new (⟦<Shelf as Lent>⟧.asked shelf.new) notes.new.items)
         (λ hosts. ⟦<Shelf as Lent>⟧.answers hosts shelf.old) (λ hosts. ⟦<Shelf as Lent>⟧.answers hosts shelf.new) hearing.old.heard hearing.new.heard) }
@@ -117,22 +56,137 @@ fn renew_behind(
     ensures counted { OnOk result (⟦<Shelf as Lent>⟧.counted shelf.new) }
     ensures compared { OnOk result (AreCompared before.now hearing.new) }
 {
-    if !stays_first(before, hearing, near, &memo) {
-        let mut place = memo;
-        let all = Box::replace(&mut place, PageMemo::blank());
-        let renewed = renew_on(
-            alloc, graph, shelf, before, hearing, lines, all, links, row, notes,
-        )?;
-        return Ok(kept_at(place, renewed));
+    if hearing.are_same(before, near, &line.names) {
+        return Ok(true);
     }
-    let (text, later, place) = text_apart(memo);
-    let rest = rest_of(lines);
-    let next = near.saturating_add(text.names.len());
-    let behind = renew_behind(
-        alloc, graph, shelf, before, hearing, rest, next, later, links, row, notes,
+    let same = listen_here(
+        alloc, graph, shelf, before, hearing, formula, line, links, row, notes,
     )?;
-    let all = put_text(alloc, text, behind, place)?;
-    Ok(all)
+    Ok(same)
+}
+
+// What became of one part.
+fn part(alloc: Global, change: Change) -> Result<Vec<Change>, NoMemory>
+    ensures { IfOk result (λ cs. map changed cs.items ≡ changed change ∷ []) }
+{
+    let mut changes = Vec::with_capacity(alloc, 1)?;
+    changes.push(change)?;
+    Ok(changes)
+}
+
+// Brings what is kept of lines that are no text and no element first up to date, where it is kept. Its clauses are those of renewing.
+fn renew_other(
+    alloc: Global,
+    graph: &mut Graph,
+    shelf: &mut Shelf,
+    before: &Outcomes,
+    hearing: &mut Rehearing,
+    lines: &Block,
+    memo: &mut PageMemo,
+    look: Look,
+    links: &[NodeId],
+    row: Option<&RowRef>,
+    notes: &mut Vec<RunNote>,
+) -> Result<Change, NoMemory>
+    requires place { IfSome row (λ r. r.now.place < length r.now.rows.rows) }
+    requires can { CanSettle (scene graph.old (⟦<Shelf as Lent>⟧.asked shelf.old) notes.old.items) }
+    requires counted { ⟦<Shelf as Lent>⟧.counted shelf.old }
+    requires compared { AreCompared before.now hearing.old }
+    requires was { WasMadeIfRead (lines_memo (block lines.now)) links.now (option_copied row) before.now (kept memo.old) }
+    ensures made { OnOk result (Makes (lines_memo (block lines.now)) links.now (option_copied row.entry) hearing.old.heard hearing.new.heard (kept memo.new)) }
+    ensures told { IfOk result (λ c. Tells (block lines.now) links.now (option_copied row.entry) before.now (kept memo.new) (changed c)) }
+    ensures after { OnOk result (Hears
+        (scene graph.old (⟦<Shelf as Lent>⟧.asked shelf.old) notes.old.items) (scene graph.new (⟦<Shelf as Lent>⟧.asked shelf.new) notes.new.items)
+        (λ hosts. ⟦<Shelf as Lent>⟧.answers hosts shelf.old) (λ hosts. ⟦<Shelf as Lent>⟧.answers hosts shelf.new) hearing.old.heard hearing.new.heard) }
+    ensures can { OnOk result (CanSettle (scene graph.new (⟦<Shelf as Lent>⟧.asked shelf.new) notes.new.items)) }
+    ensures counted { OnOk result (⟦<Shelf as Lent>⟧.counted shelf.new) }
+    ensures compared { OnOk result (AreCompared before.now hearing.new) }
+{
+    let was = mem::replace(memo, PageMemo::Blank);
+    let renewed = renew_on(
+        alloc, graph, shelf, before, hearing, lines, was, look, links, row, notes,
+    )?;
+    let Renewed { memo: now, change } = renewed;
+    *memo = now;
+    Ok(change)
+}
+
+// Brings what is kept of lines up to date, where it is kept. Texts and elements are heard again where they stand, and what is inside them and
+// behind them is renewed the same way; lines whose names are to be looked at first stay where all of these have the outcomes of before. The names
+// of texts are looked for from a place on. Its clauses are those of renewing.
+fn renew_here(
+    alloc: Global,
+    graph: &mut Graph,
+    shelf: &mut Shelf,
+    before: &Outcomes,
+    hearing: &mut Rehearing,
+    lines: &Block,
+    near: usize,
+    memo: &mut PageMemo,
+    look: Look,
+    links: &[NodeId],
+    row: Option<&RowRef>,
+    notes: &mut Vec<RunNote>,
+) -> Result<Change, NoMemory>
+    requires place { IfSome row (λ r. r.now.place < length r.now.rows.rows) }
+    requires can { CanSettle (scene graph.old (⟦<Shelf as Lent>⟧.asked shelf.old) notes.old.items) }
+    requires counted { ⟦<Shelf as Lent>⟧.counted shelf.old }
+    requires compared { AreCompared before.now hearing.old }
+    requires was { WasMade (lines_memo (block lines.now)) links.now (option_copied row) before.now (kept memo.old) }
+    ensures made { OnOk result (Makes (lines_memo (block lines.now)) links.now (option_copied row.entry) hearing.old.heard hearing.new.heard (kept memo.new)) }
+    ensures told { IfOk result (λ c. Tells (block lines.now) links.now (option_copied row.entry) before.now (kept memo.new) (changed c)) }
+    ensures after { OnOk result (Hears
+        (scene graph.old (⟦<Shelf as Lent>⟧.asked shelf.old) notes.old.items) (scene graph.new (⟦<Shelf as Lent>⟧.asked shelf.new) notes.new.items)
+        (λ hosts. ⟦<Shelf as Lent>⟧.answers hosts shelf.old) (λ hosts. ⟦<Shelf as Lent>⟧.answers hosts shelf.new) hearing.old.heard hearing.new.heard) }
+    ensures can { OnOk result (CanSettle (scene graph.new (⟦<Shelf as Lent>⟧.asked shelf.new) notes.new.items)) }
+    ensures counted { OnOk result (⟦<Shelf as Lent>⟧.counted shelf.new) }
+    ensures compared { OnOk result (AreCompared before.now hearing.new) }
+{
+    let first = looks_first(look, memo);
+    if stays(alloc, graph, shelf, before, hearing, memo, first, notes)? {
+        return Ok(Change::stays());
+    }
+    let rest = rest_of(lines);
+    match memo {
+        PageMemo::Line(line, later) => {
+            let formula = formula_of(lines);
+            let heard = hear_text(
+                alloc, graph, shelf, before, hearing, formula, near, line, links, row, notes,
+            )?;
+            let after = look_behind(look, heard, &[]);
+            let next = near.saturating_add(line.names.len());
+            let behind = renew_here(
+                alloc, graph, shelf, before, hearing, rest, next, later, after, links, row, notes,
+            )?;
+            let all = Change::over(alloc, heard, Vec::new(alloc), behind)?;
+            Ok(all)
+        }
+        PageMemo::Element(all, inside, later) => {
+            let attributes = attributes_of(lines);
+            let heard = listen_all_here(
+                alloc, graph, shelf, before, hearing, attributes, all, links, row, notes,
+            )?;
+            let inner = inner_of(lines, false);
+            let within = look_within(look, heard, later);
+            let told = renew_here(
+                alloc, graph, shelf, before, hearing, inner, near, inside, within, links, row,
+                notes,
+            )?;
+            let told = part(alloc, told)?;
+            let after = look_behind(look, heard, &told);
+            let behind = renew_here(
+                alloc, graph, shelf, before, hearing, rest, near, later, after, links, row, notes,
+            )?;
+            let all = Change::over(alloc, heard, told, behind)?;
+            Ok(all)
+        }
+        _ => {
+            let change = renew_other(
+                alloc, graph, shelf, before, hearing, lines, memo, look, links, row, notes,
+            )?;
+            Ok(change)
+        }
+    }
 }
 
 /// Brings what a page keeps of these lines up to date, in the row where they stand, once one of its names has another outcome: it is what `make`
@@ -172,13 +226,36 @@ pub fn renew(
     ensures counted { OnOk result (⟦<Shelf as Lent>⟧.counted shelf.new) }
     ensures compared { OnOk result (AreCompared before.now hearing.new) }
 {
-    let own = Box::new(alloc, memo)?;
-    let behind = renew_behind(
-        alloc, graph, shelf, before, hearing, lines, 0, own, links, row, notes,
+    let mut all = memo;
+    if unread(&all) {
+        let change = renew_other(
+            alloc,
+            graph,
+            shelf,
+            before,
+            hearing,
+            lines,
+            &mut all,
+            Look::Changed,
+            links,
+            row,
+            notes,
+        )?;
+        return Ok(Renewed { memo: all, change });
+    }
+    let change = renew_here(
+        alloc,
+        graph,
+        shelf,
+        before,
+        hearing,
+        lines,
+        0,
+        &mut all,
+        Look::Changed,
+        links,
+        row,
+        notes,
     )?;
-    let Behind { memo, change } = behind;
-    Ok(Renewed {
-        memo: Box::into_inner(memo),
-        change,
-    })
+    Ok(Renewed { memo: all, change })
 }

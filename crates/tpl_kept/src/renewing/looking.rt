@@ -21,6 +21,17 @@ pub(crate) fn hears_first(look: Look) -> bool {
     matches!(look, Look::First)
 }
 
+/// Whether the names of lines are heard again before the lines are gone over, where these begin with a text or an element, which are brought up to
+/// date where they are kept; where no line is left none is heard.
+pub(crate) fn looks_first(look: Look, memo: &PageMemo) -> bool {
+    match memo {
+        PageMemo::Blank => true,
+        PageMemo::Line(_, _) => hears_first(look),
+        PageMemo::Element(_, _, _) => hears_first(look),
+        _ => false,
+    }
+}
+
 // Whether a name of lines that are gone over is known to have another outcome, and it is none of the first line.
 fn is_behind(look: Look, heard: bool) -> bool {
     match look {
@@ -39,13 +50,23 @@ fn is_end(memo: Option<&PageMemo>) -> bool {
     }
 }
 
-/// What is known of the lines inside the first one, which are gone over so often, where `heard` says whether all names of that have the outcomes of
-/// before: where no line is behind it and those inside stand once, what has changed stands there.
-pub(crate) fn look_inside(look: Look, heard: bool, count: usize, later: &Round) -> Look {
-    if is_behind(look, heard) && count == 1 && is_end(later.left().first()) {
+// What is known of the lines inside the first one, where they stand once and no line is behind it, or not: what has changed stands there then.
+fn look_in(look: Look, heard: bool, alone: bool) -> Look {
+    if is_behind(look, heard) && alone {
         return Look::Changed;
     }
     Look::First
+}
+
+/// What is known of the lines inside the first one, which are gone over so often, where `heard` says whether all names of that have the outcomes of
+/// before: where no line is behind it and those inside stand once, what has changed stands there.
+pub(crate) fn look_inside(look: Look, heard: bool, count: usize, later: &Round) -> Look {
+    look_in(look, heard, count == 1 && is_end(later.left().first()))
+}
+
+/// What is known of the lines inside the first one, which stand once.
+pub(crate) fn look_within(look: Look, heard: bool, later: &PageMemo) -> Look {
+    look_in(look, heard, is_end(Some(later)))
 }
 
 // Whether all that is kept stays.

@@ -68,8 +68,12 @@ pub(crate) fn names_stay(
     Ok(same)
 }
 
-// Whether all names of lines are as before, where they are to be looked at.
-fn stays(
+/// Whether all names of lines are as before, where they are to be looked at.
+///
+/// # Errors
+///
+/// `NoMemory` alone; names may then have been settled.
+pub(crate) fn stays(
     alloc: Global,
     graph: &mut Graph,
     shelf: &mut Shelf,
@@ -343,8 +347,8 @@ fn renew_each(
     Ok(())
 }
 
-/// Brings what is kept of lines up to date, once one of their names has another outcome, from the first of them on. Its clauses are those of the call
-/// that passes over the lines before the first one that has changed.
+/// Brings what is kept of lines up to date, of which something is known. Its clauses are those of the call that brings them up to date where they are
+/// kept.
 ///
 /// # Errors
 ///
@@ -357,6 +361,7 @@ pub(crate) fn renew_on(
     hearing: &mut Rehearing,
     lines: &Block,
     memo: PageMemo,
+    look: Look,
     links: &[NodeId],
     row: Option<&RowRef>,
     notes: &mut Vec<RunNote>,
@@ -389,7 +394,7 @@ pub(crate) fn renew_on(
         Places::Alone(&own),
         0,
         &mut round,
-        Look::Changed,
+        look,
         notes,
         &mut changes,
     )?;
