@@ -123,7 +123,8 @@ fn put_text(tree: &Tree, number: u64, text: &Text, ops: &mut Vec<Op>) -> Result<
         return Ok(());
     }
     let text = text.copy()?;
-    ops.push(Op::Text(number, text))?;
+    ops.reserve(1)?;
+    ops.push_reserved(Op::Text(number, text));
     Ok(())
 }
 

@@ -16,6 +16,6 @@ returns-then-same c =
 
 pub returns : goal.returns
 returns c =
-    other_text c.args.number (label_in Root c.args.number c.args.tree.now) c.in-Some.now.now c.args.text.now (map op_of c.args.ops.now.items) (map op_of c.push.new.self.items)
+    other_text c.args.number (label_in Root c.args.number c.args.tree.now) c.in-Some.now.now c.args.text.now (map op_of c.args.ops.now.items) (map op_of c.push_reserved.new.self.items)
     c.in-Some.ensures (sym c.same.ensures ∙ c.if-same.false)
-    (pushed c.args.ops.now.items c.push.new.self.items _ (OpText c.args.number c.args.text.now) c.in_ok-push.ensures.items (ap (OpText c.args.number) c.in_ok-text.ensures))
+    (pushed c.args.ops.now.items c.push_reserved.new.self.items _ (OpText c.args.number c.args.text.now) (rw c.in_ok-reserve.ensures.items at c.push_reserved.ensures.items) (ap (OpText c.args.number) c.in_ok-text.ensures))
