@@ -1,23 +1,28 @@
 -- A recipe that is asked again and again, on what is heard.
-use Rattle.std.proofs.Common.{◌≡◌, ℕ, ◌<◌, List, [], ◌∷◌, ◌++◌, length, Some, refl, sym, ap, subst, ◌∙◌, arith}
-use Rattle.std.specs.Prelude.{slice_index, unwrap_or}
+use Rattle.std.proofs.Common.{◌≡◌, ℕ, ◌<◌, ◌==◌, eq-eqb, false, true, None, List, [], ◌∷◌, ◌++◌, length, Some, refl, sym, ap, subst, ◌∙◌, arith}
+use Rattle.std.specs.Prelude.{Option, if◌then◌else◌, nat_lt, slice_index, unwrap_or}
+use Rattle.std.specs.Option.{option_or}
+use Rattle.std.proofs.lemmas.Bool.Decides.{nat_tests}
 use Rattle.std.specs.Map.{keys_of}
 use Rattle.std.proofs.lemmas.List.{append-nil, map-append}
 use Rattle.sig_base.specs.declared.value.Value.{Value}
 use Rattle.sig_base.specs.declared.value.Fault.{Fault}
-use Rattle.sig_base.specs.declared.value.Fault.TheVariants.{Gone}
+use Rattle.sig_base.specs.declared.value.Fault.TheVariants.{Gone, Slot}
 use Rattle.sig_base.specs.declared.value.Known.{Known}
 use Rattle.sig_base.specs.declared.value.Outcome.{Outcome}
 use Rattle.sig_base.specs.declared.value.Outcome.TheVariants.{Good, Bad}
 use Rattle.sig_base.specs.declared.value.Step.{Step}
 use Rattle.sig_base.specs.declared.value.Step.TheVariants.{Read, Done, Fail}
-use Rattle.signal_model.specs.Recipes.{Hosts, Recipe, recipe_answer, IsJudged, IsUnknownSlot}
+use Rattle.sig_formula.specs.Evaluation.{plain_step, slot_step}
+use Rattle.sig_formula.specs.Trees as trees
+use Rattle.sig_formula.specs.declared.formula.RowRef.{RowRef}
+use Rattle.signal_model.specs.Recipes.{Hosts, Recipe, judged, recipe_answer, IsJudged, IsUnknownSlot}
 use Rattle.signal_model.specs.Values.{Seen, Evaluation, after_step, asked_from, ended, learnt, prefixed, unknown_slots}
 use Rattle.signal_model.specs.Sound.{names_of}
 use Rattle.signal_model.proofs.Shared.{asked_by_steps, bad_read, good_read, unknown_less}
 use Rattle.signal_laws.specs.ReadLaws.{with_name, firsts_after, HaveOutcomes, IsReading}
 use Rattle.signal_laws.proofs.Shared.{all_snoc, firsts_append_law, reading_law}
-use Rattle.tpl_hearing.specs.Heard.{Evaluates, Grows, Outcomes, heard_of, WereHeard}
+use Rattle.tpl_hearing.specs.Heard.{Evaluates, Grows, Outcomes, heard_of, recipe_of, WereHeard}
 use Rattle.tpl_hearing.proofs.Names.{still_heard}
 
 -- ---- what was heard, as the outcomes of sources
@@ -144,3 +149,36 @@ fewer_unknown r known next slot v new is =
     let fewer = unknown_less (length r.slots) slot v known new in
     let now = ap (unknown_slots (length r.slots)) is in
     omega (arith, fewer, now)
+
+-- ---- a formula that is a slot and nothing else
+
+-- it asks for the slot
+slot_asks : (s : ℕ) (row : Option RowRef) (slots : List ℕ) → s < length slots → (hosts : Hosts) →
+    recipe_answer hosts (recipe_of (trees.slot s) row slots) [] ≡ Read s
+slot_asks s row slots inside hosts =
+    let e : nat_lt s (length slots) ≡ true = grind (arith, nat_tests, inside) in
+    ap (λ b. if b then Read s else Fail Slot) e
+
+-- and comes to its value
+slot_ends : (s : ℕ) (row : Option RowRef) (slots : List ℕ) (v : Value) (hosts : Hosts) →
+    recipe_answer hosts (recipe_of (trees.slot s) row slots) (learnt [] s v) ≡ Done v
+slot_ends s row slots v hosts =
+    let e : (s == s) ≡ true = eq-eqb s s refl in
+    ap (λ b. judged (length slots) (learnt [] s v) (plain_step (slot_step false s (option_or (if b then Some v else None) None)))) e
+
+-- a value was heard of the name that it stands for
+pub slot_good : (s : ℕ) (row : Option RowRef) (slots : List ℕ) (heard now : Outcomes) (n : ℕ) (v : Value) → s < length slots → Grows heard now →
+    n ≡ slice_index slots s → heard_of now n ≡ Some (Good v) → keys_of now ≡ with_name (keys_of heard) n →
+    Evaluates (recipe_of (trees.slot s) row slots) (record { reads = record { name = n; outcome = Good v } ∷ []; outcome = Good v }) heard now
+slot_good s row slots heard now n v inside grows is good joins =
+    let r = recipe_of (trees.slot s) row slots in
+    ends_good r (learnt [] s v) (record { name = n; outcome = Good v } ∷ []) heard now v
+    (asked_more r [] [] heard heard now s n v (nothing_asked r heard) grows (slot_asks s row slots inside) is good joins) (slot_ends s row slots v)
+
+-- or a fault
+pub slot_bad : (s : ℕ) (row : Option RowRef) (slots : List ℕ) (heard now : Outcomes) (n : ℕ) (e : Fault) → s < length slots → Grows heard now →
+    n ≡ slice_index slots s → heard_of now n ≡ Some (Bad e) → keys_of now ≡ with_name (keys_of heard) n →
+    Evaluates (recipe_of (trees.slot s) row slots) (record { reads = record { name = n; outcome = Bad e } ∷ []; outcome = Bad e }) heard now
+slot_bad s row slots heard now n e inside grows is bad joins =
+    let r = recipe_of (trees.slot s) row slots in
+    ends_read r [] [] heard heard now s n e (nothing_asked r heard) grows (slot_asks s row slots inside) is bad joins

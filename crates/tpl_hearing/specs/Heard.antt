@@ -1,12 +1,12 @@
 -- What is heard of names while a page is brought up to date, and what hearing them leaves.
-use Rattle.std.specs.Prelude.{◌≡◌, ℕ, Bool, List, ◌++◌, [], Option, Some}
+use Rattle.std.specs.Prelude.{◌≡◌, ◌<◌, ℕ, Bool, List, ◌++◌, [], Option, Some}
 use Rattle.std.specs.List.{AllByRecursion}
 use Rattle.std.specs.Map.{keys_of}
 use Rattle.sig_base.specs.Tables.{AreRows}
 use Rattle.sig_base.specs.declared.value.Value.TheVariants as value
 use Rattle.sig_base.specs.declared.value.Outcome.{Outcome}
 use Rattle.sig_base.specs.declared.value.Outcome.TheVariants.{Good}
-use Rattle.sig_formula.specs.Trees.{Tree}
+use Rattle.sig_formula.specs.Trees.{Tree, slot}
 use Rattle.sig_formula.specs.declared.formula.RowRef.{RowRef}
 use Rattle.signal_model.specs.Recipes.{Hosts, Recipe, formula}
 use Rattle.signal_model.specs.Signals.{Signals}
@@ -59,3 +59,8 @@ pub record Evaluates (r : Recipe) (e : Evaluation) (earlier now : Outcomes) : Ty
 -- a formula of a line, with the row in which the line stands, and the signals that its slots stand for
 abbrev pub recipe_of : Tree → Option RowRef → List ℕ → Recipe
 recipe_of t row slots = record { expression = formula row t; slots = slots }
+
+-- a formula is this slot and nothing else, and it is one of so many
+pub record IsSlot (t : Tree) (s count : ℕ) : Type 0 where
+  pub is : t ≡ slot s
+  pub inside : s < count

@@ -5,7 +5,7 @@ use Rattle.sig_host.specs.Hosts.{AnswersBy, IsCounted}
 use Rattle.signal_model.specs.Values.{unknown_slots}
 use Rattle.tpl_hearing.specs.Heard.{recipe_of, scene, CanSettle, Hears}
 use Rattle.tpl_hearing.proofs.Asks.{IsAsking}
-use Rattle.tpl_hearing.proofs.evaluation.evaluate.Given as goal
+use Rattle.tpl_hearing.proofs.evaluation.ask_on.Given as goal
 
 abbrev pub invariant-asking : goal.invariant-asking
 invariant-asking g l = record {
