@@ -1,5 +1,5 @@
 -- What is done to signals alone, or to the tables alone, is done to the world.
-use Rattle.std.proofs.Common.{◌≡◌, ℕ, ◌≤◌, ◌+◌, ◌++◌, Bool, true, false, List, [], ◌∷◌, Option, Some, None, length, refl, sym, ap, subst, ◌∙◌, arith}
+use Rattle.std.proofs.Common.{◌≡◌, ℕ, ◌≤◌, ◌+◌, ◌++◌, Bool, true, false, List, [], ◌∷◌, Option, Some, None, length, map, refl, sym, ap, subst, ◌∙◌, arith}
 use Rattle.sig_base.specs.declared.value.Value.{Value}
 use Rattle.signal_model.specs.Recipes.{Hosts, Recipe}
 use Rattle.signal_model.specs.Signals.{Signals, is_in}
@@ -23,7 +23,7 @@ use Rattle.sig_owner.specs.Trees.{has_thing, owned_of}
 use Rattle.sig_effect.specs.declared.events.Event.{Event}
 use Rattle.sig_effect.specs.Events.{Tells}
 use Rattle.sig_graph.specs.States.{Seen, no_state}
-use Rattle.sig_watcher.specs.Tables.{Table, with_changed, with_new}
+use Rattle.sig_watcher.specs.Tables.{Table, with_changed, with_each, with_new}
 use Rattle.sig_effect.specs.Stores as signals
 use Rattle.sig_effect.specs.Stores.{AreWatched}
 use Rattle.sig_effect.specs.Wholes as wholes
@@ -101,6 +101,10 @@ pub changed_nothing : (slacks : List ℕ) (old new : World) (events : List Event
 changed_nothing slacks old new events steps act is acts framed =
     subst (λ (w : World). Changed slacks old w events events steps act) (sym is)
     (changed_whole slacks old old events events steps act acts (λ asked a. a) framed (λ count h. h) (λ h. h) refl refl refl (omega arith) (omega arith) (λ h. h))
+
+-- where no watcher lives, what is done to each of them leaves them as they are
+pub unwatched_same : (f : plain.Watcher → plain.Watcher) (t : Table) → t.watchers ≡ [] → t ≡ with_each f t
+unwatched_same f t none = ap (λ (ws : List plain.Watcher). record t { watchers = ws }) (none ∙ sym (ap (map f) none))
 
 -- ---- each act on signals
 

@@ -6,6 +6,7 @@ use Rattle.signal_model.specs.Recipes.{Expression, Hosts}
 use Rattle.signal_model.specs.Signals.{Signals, Stands, is_cell, is_computed, standing}
 use Rattle.effect_model.specs.Acts.{host_of, host_refused}
 use Rattle.effect_model.specs.Batches.{joined_by}
+use Rattle.effect_model.specs.declared.how.How.TheVariants.{Set}
 use Rattle.effect_model.specs.Worlds as plain
 use Rattle.sig_host.specs.Hosts.{HostPlace, most_asked}
 use Rattle.sig_nodes.specs.Answers.{HasFewSlots}
@@ -13,10 +14,13 @@ use Rattle.sig_graph.specs.States.{CanWear, Seen, is_given}
 use Rattle.sig_owner.specs.declared.errors.OwnFault.{OwnFault}
 use Rattle.sig_owner.specs.declared.errors.OwnFault.TheVariants as own
 use Rattle.sig_state.specs.Batches.{Collected}
+use Rattle.sig_state.specs.declared.sets.SetDone.{SetDone}
+use Rattle.sig_state.specs.declared.sets.SetDone.TheVariants.{Accepted, Same}
 use Rattle.sig_state.specs.Equality.{IsRuled}
 use Rattle.sig_effect.specs.declared.errors.EffectFault.{EffectFault}
 use Rattle.sig_effect.specs.declared.errors.EffectFault.TheVariants as fault
 use Rattle.sig_effect.specs.declared.events.Event.{Event}
+use Rattle.sig_effect.specs.declared.events.Event.TheVariants as event
 use Rattle.sig_effect.specs.Events.{AreNamed}
 use Rattle.sig_effect.specs.Stores as below
 use Rattle.sig_effect.specs.Stores.{AreRuled, environment}
@@ -78,6 +82,11 @@ pub record Changed (slacks : List ℕ) (old new : World) (before after : List Ev
   pub made : new.watchers.made ≡ old.watchers.made
   pub worn : new.graph.state.worn ≤ old.graph.state.worn + steps
   pub told : length before ≤ length after
+
+-- what is told of a set where no watcher lives: that the cell was changed, where it was
+abbrev pub told_unwatched : SetDone → ℕ → List Event
+told_unwatched Same id = []
+told_unwatched Accepted id = event.Change id Set ∷ []
 
 -- a batch has what the set of a cell to a value collects, and as much room as before
 pub record Collects (slacks : List ℕ) (s : Stands) (id : ℕ) (value : Value) (old new : Collected) : Type 0 where

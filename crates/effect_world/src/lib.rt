@@ -7,6 +7,7 @@ mod creation;
 mod ends;
 mod queries;
 mod teardown;
+mod unwatched;
 mod watchers;
 mod world;
 

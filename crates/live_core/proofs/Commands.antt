@@ -11,17 +11,22 @@ use Rattle.effect_model.specs.Owners as things
 use Rattle.effect_model.specs.Worlds as told
 use Rattle.effect_model.specs.Worlds.{Counts, HostState, unused, used, dropped, host_taken, lives, at_rest}
 use Rattle.effect_model.specs.Acts.{host_of, host_refused, is_free, with_use}
+use Rattle.effect_model.specs.declared.how.How.TheVariants.{Set}
 use Rattle.effect_laws.specs.Counts.{KeepsCounts}
 use Rattle.sig_effect.specs.Kinds.{AreKindsOf, KeepsKinds}
 use Rattle.sig_host.specs.Hosts.{HostPlace}
 use Rattle.sig_nodes.specs.Answers.{HasFewSlots}
 use Rattle.sig_graph.specs.States.{Seen, is_given}
 use Rattle.sig_state.specs.Batches.{Collected}
+use Rattle.sig_state.specs.declared.sets.SetDone.{SetDone}
+use Rattle.sig_state.specs.declared.sets.SetDone.TheVariants.{Accepted, Same}
 use Rattle.sig_effect.specs.declared.errors.EffectFault.{EffectFault}
 use Rattle.sig_effect.specs.declared.errors.EffectFault.TheVariants as fault
 use Rattle.sig_effect.specs.Stores.{AreRuled}
 use Rattle.sig_effect.specs.declared.events.Event.{Event}
+use Rattle.sig_effect.specs.declared.events.Event.TheVariants as event
 use Rattle.effect_world.specs.declared.world.World.{World}
+use Rattle.effect_world.specs.Answers.{told_unwatched}
 use Rattle.effect_world.specs.Stores.{Agrees, Does, IsSound}
 use Rattle.sig_effect.specs.Events.{AreTold}
 use Rattle.effect_world.specs.Costs.{weight}
@@ -41,7 +46,7 @@ use Rattle.live_model.specs.Labels as called
 use Rattle.live_model.specs.Labels.{labels_after}
 use Rattle.live_model.specs.Links.{recipe_of}
 use Rattle.live_model.specs.Machine as plain
-use Rattle.live_model.specs.Machine.{acted, entries_of, one_too_many, reached, with_live_pages}
+use Rattle.live_model.specs.Machine.{acted, entries_of, event_entries, one_too_many, reached, with_live_pages}
 use Rattle.live_model.specs.Names.{Names, first_refusal, is_gone, meaning_of, number_of, thing_named, thing_of}
 use Rattle.live_model.specs.Scripts.{IsReadSource}
 use Rattle.live_model.specs.Uses.{uses_of_source}
@@ -161,6 +166,27 @@ untold l j es none = record {
   entries = λ ts h. none ∙ none_entries (labels_of l) ts h;
   labels = λ ts h. none_labels (labels_of l) ts h;
   noted = λ ts h. none_noted j ts h;
+  names = record { signals = refl; owners = refl; pages = refl; watchers = refl };
+}
+
+-- where one signal was changed, of which nothing is told
+change_entries : (l : called.Labels) (n : ℕ) (ts : List told.Event) → AreTold (event.Change n Set ∷ []) ts → [] ≡ entries_of l ts
+change_entries l n [] h = absurd h
+change_entries l n (t ∷ []) h = ap (λ (u : told.Event). event_entries l u ++ []) (sym h.0)
+change_entries l n (t ∷ u ∷ ts) h = absurd h.1
+
+change_labels : (l : called.Labels) (n : ℕ) (ts : List told.Event) → AreTold (event.Change n Set ∷ []) ts → l ≡ labels_after ts l
+change_labels l n [] h = absurd h
+change_labels l n (t ∷ []) h = ap (λ (u : told.Event). called.relabelled u l) (sym h.0)
+change_labels l n (t ∷ u ∷ ts) h = absurd h.1
+
+-- a set of which nobody hears
+pub unheard : (l : Labels) (j : Option Journal) (d : SetDone) (n : ℕ) → j ≡ None → TellsBy l l j j (told_unwatched d n) []
+unheard l j Same n none = untold l j [] refl
+unheard l j Accepted n none = record {
+  entries = λ ts h. change_entries (labels_of l) n ts h;
+  labels = λ ts h. change_labels (labels_of l) n ts h;
+  noted = λ ts h. subst (λ (o : Option Journal). o ≡ noting ts o) (sym none) refl;
   names = record { signals = refl; owners = refl; pages = refl; watchers = refl };
 }
 

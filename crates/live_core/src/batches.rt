@@ -1,6 +1,6 @@
 // Cells get values, and changes are collected while a batch is open: they are told together as it is committed, or given back as it is
 // aborted.
-ghost use Rattle.std.specs.Prelude.{◌≡◌, ◌<◌, ◌^◌, ℕ, true, false, List, None, IfErr, IfOk, OnOk, length, map};
+ghost use Rattle.std.specs.Prelude.{◌≡◌, ◌<◌, ◌^◌, ℕ, [], true, false, List, None, IfErr, IfOk, OnOk, length, map};
 ghost use Rattle.signal_model.specs.Recipes.{Hosts};
 ghost use Rattle.signal_model.specs.Signals.{is_computed, is_there, standing};
 ghost use Rattle.sig_host.specs.Hosts.{HostPlace};
@@ -23,9 +23,44 @@ use sig_host::EqualsRule;
 use sig_state::Batch;
 
 impl Machine {
+    // Whether nobody hears of a change: no journal was begun, and no watcher lives.
+    fn is_unheard(&self) -> bool
+        ensures journal { result ≡ true → self.now.journal ≡ None }
+        ensures watchers { result ≡ true → length self.now.world.watchers.watchers ≡ 0 }
+    {
+        match &self.journal {
+            Some(_) => false,
+            None => self.world.watchers.live() == 0,
+        }
+    }
+
+    // Gives a cell a value while no batch is open and nobody hears of it, so that nothing is told. Its clauses are those of `set_told`, and that
+    // nobody hears of it.
+    fn set_unheard(&mut self, rules: &[EqualsRule], cell: NodeId, value: Value)
+        requires ready { IsReady self.old }
+        requires alone { self.old.batch ≡ None }
+        requires owned { AreOwned self.old.world }
+        requires weight { weight self.old.world < 2 ^ 125 }
+        requires ruled { AreRuled (length rules.now) self.old.world.graph.state.signals }
+        requires kind { is_computed (standing self.old.world.graph.state.signals cell) ≡ false }
+        requires there { is_there (standing self.old.world.graph.state.signals cell) ≡ true }
+        requires journal { self.old.journal ≡ None }
+        requires watchers { length self.old.world.watchers.watchers ≡ 0 }
+        ensures steps { (hosts : Hosts) (asked : List HostPlace) → IsSound hosts asked self.old.world →
+            Steps hosts asked self.new [] (setting (environment hosts (map (λ r. r.slack) rules.now)) (plain_of asked self.old) cell value) }
+        ensures leaves { (hosts : Hosts) (asked : List HostPlace) (count : ℕ) → IsSound hosts asked self.old.world →
+            Leaves asked asked count self.old self.new }
+    {
+        match self.world.change_unwatched(rules, cell, value) {
+            Ok(_) => {}
+            Err(_) => unreachable!(),
+        }
+    }
+
     // Gives a cell a value while no batch is open. What is notified is told. Most of its clauses ask, each for something that may fail by
     // itself: a ready machine, no open batch, owners that agree, room in the counters, rules that are there, and a cell that stands.
-    fn set_alone(
+    #[inline(never)]
+    fn set_told(
         &mut self,
         rules: &[EqualsRule],
         cell: NodeId,
@@ -55,6 +90,35 @@ impl Machine {
             &mut self.journal,
             &self.events,
         )?;
+        Ok(told)
+    }
+
+    // So it is done, with the same clauses; and where nobody hears of it, nothing is put together that would be told.
+    fn set_alone(
+        &mut self,
+        rules: &[EqualsRule],
+        cell: NodeId,
+        value: Value,
+    ) -> Result<Vec<Entry>, EffectFault>
+        requires ready { IsReady self.old }
+        requires alone { self.old.batch ≡ None }
+        requires owned { AreOwned self.old.world }
+        requires weight { weight self.old.world < 2 ^ 125 }
+        requires ruled { AreRuled (length rules.now) self.old.world.graph.state.signals }
+        requires kind { is_computed (standing self.old.world.graph.state.signals cell) ≡ false }
+        requires there { is_there (standing self.old.world.graph.state.signals cell) ≡ true }
+        ensures steps { (hosts : Hosts) (asked : List HostPlace) → IsSound hosts asked self.old.world →
+            IfOk result (λ es. Steps hosts asked self.new es.items
+            (setting (environment hosts (map (λ r. r.slack) rules.now)) (plain_of asked self.old) cell value)) }
+        ensures leaves { (hosts : Hosts) (asked : List HostPlace) (count : ℕ) → IsSound hosts asked self.old.world →
+            OnOk result (Leaves asked asked count self.old self.new) }
+        ensures memory { IfErr result (λ e. e ≡ fault.NoMemory) }
+    {
+        if self.is_unheard() {
+            self.set_unheard(rules, cell, value);
+            return Ok(Vec::new(self.alloc));
+        }
+        let told = self.set_told(rules, cell, value)?;
         Ok(told)
     }
 
