@@ -1,4 +1,4 @@
-use Rattle.std.proofs.Common.{[], ◌≡◌, List, map, sym, subst}
+use Rattle.std.proofs.Common.{List, map, sym, subst}
 use Rattle.sig_effect.specs.Stores.{environment}
 use Rattle.live_entries.specs.declared.entry.Entry.{Entry}
 use Rattle.live_model.specs.Machine.{setting}

@@ -1,10 +1,9 @@
-use Rattle.std.proofs.Common.{◌≡◌, true, false, [], Result, IsErr, map, refl, sym, ap, subst, ◌∙◌, arith}
+use Rattle.std.proofs.Common.{◌≡◌, true, false, [], IsErr, map, refl, sym, ap, subst, ◌∙◌, arith}
 use Rattle.std.proofs.lemmas.List.{nil_from_length}
 use Rattle.effect_model.specs.Acts.{set_cell}
 use Rattle.effect_laws.proofs.SharedCounts.{all_keep_counts}
 use Rattle.sig_effect.proofs.SharedKinds.{all_keep_kinds}
 use Rattle.sig_effect.specs.Stores.{environment}
-use Rattle.effect_world.specs.Answers.{told_unwatched}
 use Rattle.live_core.proofs.Batched.{alone_steps, roomy_none}
 use Rattle.live_core.proofs.Commands.{acts_steps, leaves_acted, stays_by, unheard}
 use Rattle.live_core.proofs.machine.Machine.set_unheard.Goals as goal
