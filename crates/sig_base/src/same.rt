@@ -56,7 +56,7 @@ fn same_few(one: &[u8], other: &[u8]) -> bool
     one[0] == other[0] && one[between] == other[between] && one[last] == other[last]
 }
 
-/// Whether bytes are the same; where they stand next to each other in a search this is told without a call.
+/// Whether bytes are the same. Short ones, as the names that a search meets, are compared without a call.
 #[inline(always)]
 pub fn same_bytes(one: &[u8], other: &[u8]) -> bool
     ensures { result ≡ bytes_eq one.now other.now }

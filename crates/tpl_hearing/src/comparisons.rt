@@ -166,7 +166,7 @@ impl Rehearing {
     }
 
     /// Whether each of these names was heard before this call and has the outcome of before. Nothing is heard. They are looked for from a place on,
-    /// one after the other.
+    /// one after the other; a no promises nothing, as the page is then drawn as if they had changed.
     pub fn are_same(&self, before: &Outcomes, from: usize, ids: &[NodeId]) -> bool
         requires { AreCompared before.now self.now }
         ensures { result ≡ true → AreSame before.now ids.now self.now.heard self.now.heard }
