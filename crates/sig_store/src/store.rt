@@ -19,6 +19,9 @@ const HINTS: usize = 32_768;
 // How many of them are made at once, since few numbers ask for few.
 const HINTS_AT_ONCE: usize = 1024;
 
+// How many places a number can name.
+const PLACES: u128 = 1 << 64;
+
 // A value and its number.
 #[derive(Drop)]
 struct Held<T> {
@@ -107,15 +110,23 @@ fn checked_place<T>(held: &Slab<Held<T>>, place: usize, number: u128) -> Option<
     Some(place)
 }
 
+// The place that is a number itself, where there is such a one: as a number is cut short for it, it takes no test.
+#[inline(always)]
+fn home_of(number: u128) -> usize
+    ensures { number < 2 ^ 64 → result ≡ number }
+{
+    (number % PLACES) as usize
+}
+
 // The value of a number that is its own place, as each is where nothing was taken out before.
 #[inline(always)]
 fn first_value<T>(held: &Slab<Held<T>>, number: u128) -> Option<&T>
     ensures some { IfSome result (λ v. IsValueOf (held_at held.now) number v.now) }
     ensures none { IfNone result (holds_number (held_at held.now number) number ≡ false) }
 {
-    match usize::try_from(number) {
-        Ok(place) => checked_value(held, place, number),
-        Err(_) => {
+    match checked_value(held, home_of(number), number) {
+        Some(value) => Some(value),
+        None => {
             let _most = held.capacity();
             None
         }
@@ -124,6 +135,20 @@ fn first_value<T>(held: &Slab<Held<T>>, number: u128) -> Option<&T>
 
 // The place of such a number.
 #[inline(always)]
+fn home_place<T>(held: &Slab<Held<T>>, number: u128) -> Option<usize>
+    ensures some { IfSome result (λ p. number_there (held_at held.now) p ≡ Some number) }
+    ensures none { IfNone result (holds_number (held_at held.now number) number ≡ false) }
+{
+    match checked_place(held, home_of(number), number) {
+        Some(place) => Some(place),
+        None => {
+            let _most = held.capacity();
+            None
+        }
+    }
+}
+
+// The same, which is the number itself.
 fn first_place<T>(held: &Slab<Held<T>>, number: u128) -> Option<usize>
     ensures some { IfSome result (λ p. number_there (held_at held.now) p ≡ Some number) }
     ensures place { IfSome result (λ p. p ≡ number) }
@@ -234,7 +259,7 @@ fn place_of<T>(
     requires { AreOwn (place_by (get nat_eq places.now) (held_at held.now)) (held_at held.now) }
     ensures { result ≡ place_by (get nat_eq places.now) (held_at held.now) number }
 {
-    match first_place(held, number) {
+    match home_place(held, number) {
         Some(place) => Some(place),
         None => later_place(places, hints, held, number),
     }
