@@ -13,12 +13,22 @@ pub(crate) struct Spares {
     visited: Vec<NodeId>,
 }
 
-/// Takes all off a list. Mostly it has one or none, so that no loop is begun.
+// Takes the last one off a list, if there is one.
+#[inline(always)]
+fn drop_last<T: Drop>(list: &mut Vec<T>) {
+    let _last = list.pop();
+}
+
+/// Takes all off a list. Mostly it has two at most, so that no loop is begun.
 #[inline(always)]
 pub fn clear_few<T: Drop>(list: &mut Vec<T>)
     ensures { list.new.items ≡ [] }
 {
-    let _last = list.pop();
+    drop_last(list);
+    if list.is_empty() {
+        return;
+    }
+    drop_last(list);
     if list.is_empty() {
         return;
     }
