@@ -135,16 +135,18 @@ impl Learnt {
         Ok(reached)
     }
 
-    /// Reads a slot that was waited for, where a formula asked for it and its signal is read at once. Whether it did: else nothing changes.
+    /// Reads a slot that was waited for, where a formula asked for it and its signal is a certain one, which is read at once. Whether it did: else
+    /// nothing changes.
     pub(crate) fn read_slot(
         &mut self,
         graph: &Graph,
         id: NodeId,
         slot: u32,
+        signal: NodeId,
     ) -> Result<bool, NoMemory>
         ensures { IfOk result (λ b. IsToldWhere b graph.now id slot self.old self.new) }
     {
-        let read = graph.read_slot(id, slot, &mut self.known, &mut self.reads)?;
+        let read = graph.read_slot(id, slot, signal, &mut self.known, &mut self.reads)?;
         Ok(read)
     }
 

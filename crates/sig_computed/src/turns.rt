@@ -432,14 +432,13 @@ fn come_back(
     slot: u32,
 ) -> Result<bool, NoMemory>
     requires waits { frame.old.doing ≡ doing.Waiting slot }
-    requires slot { slot < length (slots_here (standing graph.now.state.signals frame.old.id)) }
     ensures run { IfOk result (λ runs. ComesToRun runs graph.now frame.old frame.new) }
     ensures id { OnOk result (frame.new.id ≡ frame.old.id) }
 {
-    if !visited.is_last(slot_of(graph, frame.id, slot)) {
+    let Some(last) = visited.last() else {
         return Ok(false);
-    }
-    let read = frame.learnt.read_slot(graph, frame.id, slot)?;
+    };
+    let read = frame.learnt.read_slot(graph, frame.id, slot, last)?;
     if !read {
         return Ok(false);
     }

@@ -15,8 +15,8 @@ use crate::links::{copied, relink};
 use crate::reading::{Reached, read_ready, read_slots};
 use sig_base::{Known, NoMemory, NodeId, Outcome};
 use sig_nodes::{
-    Asked, IdList, Memo, ask_at, begin_at, compared_at, computation_at, end_at, keep_memo_at,
-    renew_memo_at,
+    Asked, Computation, IdList, Memo, ask_at, begin_at, compared_at, computation_at, end_at,
+    keep_memo_at, renew_memo_at,
 };
 
 /// One counted step more.
@@ -27,6 +27,17 @@ pub(crate) fn counted(looked: u128) -> u128
         looked + 1
     } else {
         looked
+    }
+}
+
+// Whether a slot of a computed stands for a certain signal.
+#[inline(always)]
+fn stands_for(computation: &Computation, slot: u32, signal: NodeId) -> bool
+    ensures { result ≡ true → slice_get computation.now.recipe.slots slot ≡ Some signal }
+{
+    match computation.slot(slot) {
+        Some(id) => id == signal,
+        None => false,
     }
 }
 
@@ -132,14 +143,15 @@ impl Graph {
         Ok(reached)
     }
 
-    /// Reads a slot that a computed's formula has asked for, where its signal is read at once, as `read_on` reads it, and puts it behind what
-    /// is known and what was read. Whether it did: else nothing changes, and so it is where a host formula has asked. It is no counted step.
-    /// Without memory the two lists may only be dropped.
+    /// Reads a slot that a computed's formula has asked for, where its signal is a certain one, which is read at once, as `read_on` reads it, and
+    /// puts it behind what is known and what was read. Whether it did: else nothing changes, and so it is where a host formula has asked. It is
+    /// no counted step. Without memory the two lists may only be dropped.
     #[inline(always)]
     pub fn read_slot(
         &self,
         id: NodeId,
         slot: u32,
+        signal: NodeId,
         known: &mut Vec<Known>,
         reads: &mut Vec<NodeId>,
     ) -> Result<bool, NoMemory>
@@ -154,6 +166,9 @@ impl Graph {
         let Some(_formula) = computation.formula() else {
             return Ok(false);
         };
+        if !stands_for(computation, slot, signal) {
+            return Ok(false);
+        }
         let read = read_ready(&self.nodes, &self.marks, computation, slot, known, reads)?;
         Ok(read)
     }
