@@ -263,12 +263,23 @@ fn take_nothing(doing: Doing, learnt: &mut Learnt)
     }
 }
 
-// Keeps one for the next time, or lets it go where there is no room for one more.
-fn keep_spare(spares: &mut Vec<Box<Learnt>>, learnt: Box<Learnt>) {
+// Keeps one for the next time in more room, or lets it go where there is no memory. It stands apart, as mostly there is room.
+#[inline(never)]
+fn keep_more(spares: &mut Vec<Box<Learnt>>, learnt: Box<Learnt>) {
     match spares.push(learnt) {
         Ok(_) => {}
         Err(_) => {}
     }
+}
+
+// Keeps one for the next time, or lets it go where there is no room for one more.
+#[inline(always)]
+fn keep_spare(spares: &mut Vec<Box<Learnt>>, learnt: Box<Learnt>) {
+    if spares.len() < spares.capacity() {
+        spares.push_reserved(learnt);
+        return;
+    }
+    keep_more(spares, learnt);
 }
 
 // What was put aside is again what a frame has learnt, and what it has now is left for the next time. It stands apart, as most frames wait

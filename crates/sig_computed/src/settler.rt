@@ -109,13 +109,14 @@ fn keep(
     ensures after { OnOk result ((seen : List Seen) → names.now ≡ names_of seen → IsKept graph.old graph.new node (evaluation_of seen outcome.old)) }
     ensures notes { OnOk result (map note_of notes.new.items ≡ map note_of notes.old.items ++ (record { name = node; reads = names.now; outcome = outcome.old }) ∷ []) }
 {
+    notes.reserve(1)?;
     let reads = keep_in(graph, node, names, outcome)?;
     let noted = take_outcome(outcome);
-    notes.push(RunNote {
+    notes.push_reserved(RunNote {
         id: node,
         reads,
         outcome: noted,
-    })?;
+    });
     Ok(())
 }
 

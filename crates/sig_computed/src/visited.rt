@@ -204,13 +204,16 @@ impl Visited {
         true
     }
 
-    /// Whether a computed is among them, which takes few steps where there are none.
+    /// Whether a computed is among them, which takes few steps where there are none, or where its flag is down.
     #[inline(always)]
     pub(crate) fn has(&mut self, id: NodeId) -> Result<bool, NoMemory>
         ensures has { IfOk result (λ b. b ≡ is_in id self.old) }
         ensures same { OnOk result ((m : ℕ) → is_in m self.new ≡ is_in m self.old) }
     {
         if self.is_none() {
+            return Ok(false);
+        }
+        if !self.is_up(id) {
             return Ok(false);
         }
         let has = self.has_some(id)?;
