@@ -75,24 +75,24 @@ undecided op.Rem v h = refl
 pub whole_asks : (t : Tree) (known : List Known) (n : ℕ) → formula_step false t None known [] ≡ Ask n false → answer_of t None known ≡ Read n
 whole_asks t known n h = ap plain_step h
 
--- what the left operand asks for the operation asks for
-pub left_asks : (o : BinOp) (a b : Tree) (known : List Known) (n : ℕ) → formula_step false a None known [] ≡ Ask n false →
-    answer_of (binary o a b) None known ≡ Read n
-left_asks o a b known n h =
-    ap (λ s. plain_step (with_value s (λ v. unless_decided (decided o v) (with_value (formula_step false b None known []) (λ w. End (operated o v w)))))) h
+-- once the left operand has a value that doesn't decide, the rest is asked of the right one
+pub with_undecided : (o : BinOp) (a b : Tree) (known : List Known) (v : Value) → decided o v ≡ None → formula_step false a None known [] ≡ End (Good v) →
+    formula_step false (binary o a b) None known [] ≡ with_value (formula_step false b None known []) (λ w. End (operated o v w))
+with_undecided o a b known v free first =
+    ap (λ s. with_value s (λ x. unless_decided (decided o x) (with_value (formula_step false b None known []) (λ w. End (operated o x w))))) first
+    ∙ ap (λ d. unless_decided d (with_value (formula_step false b None known []) (λ w. End (operated o v w)))) free
 
--- once the left operand has a value, the rest is asked of the right one
+-- as where the operator's left operand never decides
 with_left : (o : BinOp) (a b : Tree) (known : List Known) (v : Value) → decides o ≡ false → formula_step false a None known [] ≡ End (Good v) →
-    answer_of (binary o a b) None known ≡ plain_step (with_value (formula_step false b None known []) (λ w. End (operated o v w)))
-with_left o a b known v free first =
-    ap (λ s. plain_step (with_value s (λ x. unless_decided (decided o x) (with_value (formula_step false b None known []) (λ w. End (operated o x w)))))) first
-    ∙ ap (λ d. plain_step (unless_decided d (with_value (formula_step false b None known []) (λ w. End (operated o v w))))) (undecided o v free)
+    formula_step false (binary o a b) None known [] ≡ with_value (formula_step false b None known []) (λ w. End (operated o v w))
+with_left o a b known v free first = with_undecided o a b known v (undecided o v free) first
 
 -- what the right operand asks for then the operation asks for
 pub right_asks : (o : BinOp) (a b : Tree) (known : List Known) (v : Value) (n : ℕ) → decides o ≡ false →
-    formula_step false a None known [] ≡ End (Good v) → formula_step false b None known [] ≡ Ask n false → answer_of (binary o a b) None known ≡ Read n
+    formula_step false a None known [] ≡ End (Good v) → formula_step false b None known [] ≡ Ask n false →
+    formula_step false (binary o a b) None known [] ≡ Ask n false
 right_asks o a b known v n free first h =
-    with_left o a b known v free first ∙ ap (λ s. plain_step (with_value s (λ w. End (operated o v w)))) h
+    with_left o a b known v free first ∙ ap (λ s. with_value s (λ w. End (operated o v w))) h
 
 -- and what the operator makes of the two is the answer
 pub pair_ends : (o : BinOp) (a b : Tree) (known : List Known) (v w : Value) (x : Outcome) → decides o ≡ false →
@@ -100,7 +100,7 @@ pub pair_ends : (o : BinOp) (a b : Tree) (known : List Known) (v w : Value) (x :
     step_by None x ≡ answer_of (binary o a b) None known
 pair_ends o a b known v w x free first second made =
     end_told x ∙ ap (λ z. plain_step (End z)) made
-    ∙ sym (with_left o a b known v free first ∙ ap (λ s. plain_step (with_value s (λ y. End (operated o v y)))) second)
+    ∙ sym (ap plain_step (with_left o a b known v free first ∙ ap (λ s. with_value s (λ y. End (operated o v y))) second))
 
 -- a part alone ends with its value
 pub part_ends : (t : Tree) (known : List Known) (v : Value) → formula_step false t None known [] ≡ End (Good v) → step_by None (Good v) ≡ answer_of t None known

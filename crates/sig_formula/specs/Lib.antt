@@ -8,3 +8,4 @@ pub mod Machines
 pub mod Operations
 pub mod Stops
 pub mod Trees
+pub mod Turns

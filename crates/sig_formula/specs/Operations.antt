@@ -41,8 +41,9 @@ IsTold Open o s = Unit {0}
 abbrev pub StaysGood : Tree → List Known → Value → Type 0
 StaysGood t known v = (more : List Known) → formula_step false t None (known ++ more) [] ≡ End (Good v)
 
--- what is told of a part: the slot that it is and that isn't known, or the whole number that it is, also where more is known
+-- what is told of a part: the slot that it is and that isn't known, or the whole number or truth that it is, also where more is known
 abbrev pub IsPartTold : Part → Tree → List Known → Type 0
 IsPartTold (part.Slot n) t known = (t ≡ slot n) × (known_at n known ≡ None)
 IsPartTold (part.Number m) t known = StaysGood t known (value.Int m)
+IsPartTold (part.Truth b) t known = StaysGood t known (value.Bool b)
 IsPartTold part.Open t known = Unit {0}

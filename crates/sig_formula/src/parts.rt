@@ -1,4 +1,4 @@
-// The parts of a formula that are whole numbers, for who reads what they need where it comes to them.
+// The parts of a formula that are whole numbers or truths, for who reads what they need where it comes to them.
 ghost use Rattle.std.specs.Prelude.{◌≡◌, true, false};
 ghost use Rattle.sig_base.specs.declared.value.Value.TheVariants as value;
 ghost use Rattle.sig_formula.specs.Evaluation.{operated};
@@ -17,6 +17,8 @@ pub enum Part {
     Slot(u32),
     /// It is a whole number, whatever else comes to be known.
     Number(i64),
+    /// It is a truth, whatever else comes to be known.
+    Truth(bool),
     /// Nothing is told.
     Open,
 }
@@ -29,8 +31,10 @@ pub fn part_told(f: &Formula, known: &[Known]) -> Part
 {
     match f {
         Formula::Lit(Scalar::Int(number)) => Part::Number(*number),
+        Formula::Lit(Scalar::Bool(truth)) => Part::Truth(*truth),
         Formula::Slot(slot) => match known_at(*slot, known) {
             Some(Value::Int(number)) => Part::Number(*number),
+            Some(Value::Bool(truth)) => Part::Truth(*truth),
             Some(_) => Part::Open,
             None => Part::Slot(*slot),
         },

@@ -9,14 +9,16 @@ use Rattle.sig_base.specs.declared.value.Known.{Known}
 use Rattle.sig_base.specs.declared.value.Value.{Value}
 use Rattle.sig_base.specs.declared.value.Outcome.{Outcome}
 use Rattle.sig_base.specs.declared.value.Outcome.TheVariants.{Good}
-use Rattle.sig_formula.specs.declared.evaluate.FormulaStep.TheVariants.{End}
+use Rattle.sig_formula.specs.declared.evaluate.FormulaStep.TheVariants.{Ask, End}
 use Rattle.sig_formula.specs.declared.formula.BinOp.{BinOp}
 use Rattle.sig_formula.specs.Evaluation.{formula_step, known_at, operated}
+use Rattle.sig_formula.specs.declared.parts.Part.{Part}
 use Rattle.sig_formula.specs.declared.parts.Part.TheVariants as part
-use Rattle.sig_formula.specs.Operations.{IsPartTold, StaysGood}
+use Rattle.sig_formula.specs.Operations.{StaysGood}
+use Rattle.sig_formula.specs.Turns.{IsPartRead, first_in, next_in}
 use Rattle.sig_formula.specs.Programs.{decides}
 use Rattle.sig_formula.specs.Trees.{Tree, binary, slot}
-use Rattle.sig_formula.proofs.Shared.{left_asks, pair_ends, part_ends, right_asks, slot_asked, slot_read, whole_asks}
+use Rattle.sig_formula.proofs.Shared.{first_asked, next_asked, pair_ends, part_ends, right_asks, slot_read, whole_asks}
 use Rattle.signal_model.specs.Recipes as recipes
 use Rattle.signal_model.specs.Recipes.{Recipe, IsUnknownSlot, judged}
 use Rattle.signal_model.specs.Signals.{Computed, IsComputed, Stands, is_in, standing}
@@ -146,7 +148,14 @@ part_then xs marked c known known' reads reads' t v good h =
 
 -- a formula that asks for a slot needs it
 pub alone_asks : (c : Recipe) (t : Tree) (known : List Known) → c.expression ≡ recipes.formula None t → AsksFor c t known
-alone_asks c t known is n h = formula_needs c t known n is (whole_asks t known n h)
+alone_asks c t known is more n h = formula_needs c t (known ++ more) n is (whole_asks t (known ++ more) n h)
+
+-- the slot that a part asks for now is needed
+pub asked_now : (c : Recipe) (t : Tree) (known : List Known) (n : ℕ) → AsksFor c t known → formula_step false t None known [] ≡ Ask n false →
+    IsNeeded c known n
+asked_now c t known n asks h =
+    subst (λ (ks : List Known). IsNeeded c ks n) (append-nil known)
+    (asks [] n (subst (λ (ks : List Known). formula_step false t None ks [] ≡ Ask n false) (sym (append-nil known)) h))
 
 -- where it comes to a value, that is the answer
 pub alone_ends : (c : Recipe) (t : Tree) (known : List Known) (v : Value) (o : Outcome) → c.expression ≡ recipes.formula None t →
@@ -154,33 +163,62 @@ pub alone_ends : (c : Recipe) (t : Tree) (known : List Known) (v : Value) (o : O
 alone_ends c t known v o is good made =
     subst (λ (x : Outcome). IsAnswerOf c known Ended x) (sym made) (formula_ends c t known (Good v) is (part_ends t known v (part_now t known v good)))
 
--- an operation needs the slot that its left part asks for
-pub first_asks : (c : Recipe) (o : BinOp) (a b : Tree) (known : List Known) → c.expression ≡ recipes.formula None (binary o a b) → AsksFor c a known
-first_asks c o a b known is n h = formula_needs c (binary o a b) known n is (left_asks o a b known n h)
+-- ---- parts in the turn of their evaluation
 
--- and then the one that its right part asks for
+-- a part needs the slots that its first part asks for
+pub first_asks : (c : Recipe) (t a : Tree) (known : List Known) → first_in t ≡ Some a → AsksFor c t known → AsksFor c a known
+first_asks c t a known first asks more n h = asks more n (first_asked t a (known ++ more) n first h)
+
+-- and then those that its next part asks for
+pub next_asks : (xs : List Node) (marked : List Bool) (c : Recipe) (known known' : List Known) (reads reads' : List ℕ) (t a b : Tree) (p : Part) →
+    AsksFor c t known → HasReadHere xs marked c known reads known' reads' → first_in t ≡ Some a → IsPartRead p a known' → next_in t p ≡ Some b →
+    AsksFor c b known'
+next_asks xs marked c known known' reads reads' t a b p asks h first told is more n e =
+    let read : List Known = map known_in h.more in
+    let here : known' ++ more ≡ known ++ (read ++ more) = ap (λ (ks : List Known). ks ++ more) h.knows ∙ append_assoc known read more in
+    let whole = next_asked t a b p known' more n first told is e in
+    subst (λ (ks : List Known). IsNeeded c ks n) (sym here)
+    (asks (read ++ more) n (subst (λ (ks : List Known). formula_step false t None ks [] ≡ Ask n false) here whole))
+
+-- what is told of it by its next part, once the slots that this needs are read
+pub made_read : (xs : List Node) (marked : List Bool) (c : Recipe) (known known' : List Known) (reads reads' : List ℕ) (t a b : Tree) (p q r : Part) →
+    ((x y : Tree) (ks more : List Known) → first_in t ≡ Some x → IsPartRead p x ks → next_in t p ≡ Some y → IsPartRead q y (ks ++ more) →
+    IsPartRead r t (ks ++ more)) → HasReadHere xs marked c known reads known' reads' → first_in t ≡ Some a → IsPartRead p a known →
+    next_in t p ≡ Some b → IsPartRead q b known' → IsPartRead r t known'
+made_read xs marked c known known' reads reads' t a b p q r law h first told is second =
+    let read : List Known = map known_in h.more in
+    subst (λ (ks : List Known). IsPartRead r t ks) (sym h.knows)
+    (law a b known read first told is (subst (λ (ks : List Known). IsPartRead q b ks) h.knows second))
+
+-- ---- an operation between two parts
+
+-- it needs the slots that its left part asks for
+pub left_asks : (c : Recipe) (o : BinOp) (a b : Tree) (known : List Known) → c.expression ≡ recipes.formula None (binary o a b) → AsksFor c a known
+left_asks c o a b known is = first_asks c (binary o a b) a known refl (alone_asks c (binary o a b) known is)
+
+-- and then those that its right part asks for
 pub second_asks : (c : Recipe) (o : BinOp) (a b : Tree) (known : List Known) (v : Value) → c.expression ≡ recipes.formula None (binary o a b) →
     decides o ≡ false → StaysGood a known v → AsksFor c b known
-second_asks c o a b known v is free good n h =
-    formula_needs c (binary o a b) known n is (right_asks o a b known v n free (part_now a known v good) h)
+second_asks c o a b known v is free good more n h =
+    alone_asks c (binary o a b) known is more n (right_asks o a b (known ++ more) v n free (good more) h)
 
--- a formula that is a slot which isn't known needs that
-pub alone_left : (c : Recipe) (t : Tree) (known : List Known) (n : ℕ) → c.expression ≡ recipes.formula None t → IsPartTold (part.Slot n) t known →
+-- a formula that asks for a slot needs that
+pub alone_left : (c : Recipe) (t : Tree) (known : List Known) (n : ℕ) → c.expression ≡ recipes.formula None t → IsPartRead (part.Slot n) t known →
     IsNeeded c known n
-alone_left c t known n is told = alone_asks c t known is n (slot_asked t n known told.0 told.1)
+alone_left c t known n is told = asked_now c t known n (alone_asks c t known is) told
 
--- and so does an operation whose left part is one
+-- and so does an operation whose left part asks for one
 pub first_left : (c : Recipe) (o : BinOp) (a b : Tree) (known : List Known) (n : ℕ) → c.expression ≡ recipes.formula None (binary o a b) →
-    IsPartTold (part.Slot n) a known → IsNeeded c known n
-first_left c o a b known n is told = first_asks c o a b known is n (slot_asked a n known told.0 told.1)
+    IsPartRead (part.Slot n) a known → IsNeeded c known n
+first_left c o a b known n is told = asked_now c a known n (left_asks c o a b known is) told
 
 -- or its right part, once the left one came to a value
 pub second_left : (xs : List Node) (marked : List Bool) (c : Recipe) (known known' : List Known) (reads reads' : List ℕ) (o : BinOp) (a b : Tree) (v : Value)
     (n : ℕ) → c.expression ≡ recipes.formula None (binary o a b) → decides o ≡ false → StaysGood a known v →
-    HasReadHere xs marked c known reads known' reads' → IsPartTold (part.Slot n) b known' → IsNeeded c known' n
+    HasReadHere xs marked c known reads known' reads' → IsPartRead (part.Slot n) b known' → IsNeeded c known' n
 second_left xs marked c known known' reads reads' o a b v n is free good h told =
-    formula_needs c (binary o a b) known' n is
-    (right_asks o a b known' v n free (part_then xs marked c known known' reads reads' a v good h) (slot_asked b n known' told.0 told.1))
+    alone_left c (binary o a b) known' n is
+    (right_asks o a b known' v n free (part_then xs marked c known known' reads reads' a v good h) told)
 
 -- what it makes of the two is the answer
 pub pair_answers : (xs : List Node) (marked : List Bool) (c : Recipe) (known known' : List Known) (reads reads' : List ℕ) (o : BinOp) (a b : Tree) (v w : Value)

@@ -147,13 +147,14 @@ IsOnward xs marked c onward.Read known reads known' reads' o = ReadsNext xs mark
 IsOnward xs marked c onward.Ended known reads known' reads' o = (known' ≡ known) × (reads' ≡ reads) × IsAnswerOf c known Ended o
 IsOnward xs marked c onward.Left known reads known' reads' o = (known' ≡ known) × (reads' ≡ reads)
 
--- a recipe needs the slots that a part of its formula asks for
+-- a recipe needs the slots that a part of its formula asks for, also where more is known
 abbrev pub AsksFor : Recipe → Tree → List Known → Type 0
-AsksFor c t known = (n : ℕ) → formula_step false t None known [] ≡ Ask n false → IsNeeded c known n
+AsksFor c t known = (more : List Known) (n : ℕ) → formula_step false t None (known ++ more) [] ≡ Ask n false → IsNeeded c (known ++ more) n
 
--- what is told of a slot by its signal: the whole number that this is read as at once
+-- what is told of a slot by its signal: the whole number or truth that this is read as at once
 abbrev pub IsReadyPart : Part → List Node → List Bool → ℕ → Type 0
 IsReadyPart (part.Number m) xs marked n = IsReady xs marked n (value.Int m)
+IsReadyPart (part.Truth b) xs marked n = IsReady xs marked n (value.Bool b)
 IsReadyPart (part.Slot s) xs marked n = Unit {0}
 IsReadyPart part.Open xs marked n = Unit {0}
 

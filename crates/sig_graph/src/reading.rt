@@ -8,6 +8,7 @@ ghost use Rattle.sig_graph.specs.Reading.{AsksFor, HasReadHere, IsOnward, IsReac
 ghost use Rattle.sig_nodes.specs.Reading.{IsNeeded};
 ghost use Rattle.sig_formula.specs.Evaluation.{known_at};
 ghost use Rattle.sig_formula.specs.Operations.{IsPartTold};
+ghost use Rattle.sig_formula.specs.Turns.{IsPartRead};
 ghost use Rattle.sig_formula.specs.Programs.{decides};
 ghost use Rattle.sig_formula.specs.Trees as trees;
 ghost use Rattle.sig_formula.specs.Trees.{binary, tree};
@@ -15,9 +16,16 @@ ghost use Rattle.signal_model.specs.Recipes as recipes;
 
 use crate::evaluation::counted;
 use sig_base::{Known, NoMemory, NodeId, Outcome, Value};
-use sig_formula::{BinOp, Formula, Part, Told, decides, operate_numbers, part_told};
+use sig_formula::{
+    BinOp, Formula, Part, Told, decides, first_part, next_part, operate_numbers, part_decided,
+    part_made, part_told,
+};
 use sig_marks::Marks;
 use sig_nodes::{Body, Computation, Nodes, body_at};
+
+/// How many slots a formula may have that is gone over from its start, with all its parts, after each of them that was left. One of more
+/// slots goes on from where it stands.
+const MOST_SLOTS: usize = 8;
 
 /// What one answer of a formula comes to.
 #[derive(Clone, Copy)]
@@ -198,21 +206,22 @@ fn slot_left(computation: &Computation, slot: u32, looked: &mut u128) -> Reached
     Reached::Needs(slot)
 }
 
-// What is told of a slot by its signal: the whole number that this is read as at once; nothing where it is read as another value.
+// What is told of a slot by its signal: the whole number or truth that this is read as at once; nothing where it is read as another value.
 #[inline(always)]
 fn ready_part(nodes: &Nodes, marks: &Marks, slot: u32, id: NodeId) -> Part
     ensures { IsReadyPart result nodes.now.items marks.now.marked id }
 {
     match ready_value(nodes, marks, id) {
         Some(Value::Int(number)) => Part::Number(*number),
+        Some(Value::Bool(truth)) => Part::Truth(*truth),
         Some(_) => Part::Open,
         None => Part::Slot(slot),
     }
 }
 
-// Reads a slot that a part of a formula needs, where its signal is read at once as a whole number.
+// Reads a slot that a part of a formula needs, where its signal is read at once as a whole number or a truth.
 #[inline(always)]
-fn read_number(
+fn read_needed(
     nodes: &Nodes,
     marks: &Marks,
     computation: &Computation,
@@ -234,6 +243,10 @@ fn read_number(
             learn(known, reads, slot, Value::Int(number), id)?;
             Ok(Part::Number(number))
         }
+        Part::Truth(truth) => {
+            learn(known, reads, slot, Value::Bool(truth), id)?;
+            Ok(Part::Truth(truth))
+        }
         Part::Slot(_) => Ok(Part::Slot(slot)),
         Part::Open => Ok(Part::Open),
     }
@@ -252,16 +265,69 @@ fn read_part(
     requires { AsksFor computation.now.recipe (tree part.now) known.old.items }
     ensures read { OnOk result (HasReadHere nodes.now.items marks.now.marked computation.now.recipe known.old.items reads.old.items known.new.items reads.new.items) }
     ensures even { length known.new.items + length reads.old.items ≡ length known.old.items + length reads.new.items }
-    ensures part { IfOk result (λ p. IsPartTold p (tree part.now) known.new.items) }
+    ensures part { IfOk result (λ p. IsPartRead p (tree part.now) known.new.items) }
 {
     let told = part_told(part, known);
     match told {
         Part::Slot(slot) => {
-            let read = read_number(nodes, marks, computation, slot, known, reads)?;
+            let read = read_needed(nodes, marks, computation, slot, known, reads)?;
             Ok(read)
         }
         _ => Ok(told),
     }
+}
+
+// What is told of a part of any form, whose own parts are gone over in the turn of their evaluation.
+fn read_tree(
+    nodes: &Nodes,
+    marks: &Marks,
+    computation: &Computation,
+    part: &Formula,
+    known: &mut Vec<Known>,
+    reads: &mut Vec<NodeId>,
+) -> Result<Part, NoMemory>
+    requires { AsksFor computation.now.recipe (tree part.now) known.old.items }
+    ensures read { OnOk result (HasReadHere nodes.now.items marks.now.marked computation.now.recipe known.old.items reads.old.items known.new.items reads.new.items) }
+    ensures even { length known.new.items + length reads.old.items ≡ length known.old.items + length reads.new.items }
+    ensures part { IfOk result (λ p. IsPartRead p (tree part.now) known.new.items) }
+{
+    let Some(first) = first_part(part) else {
+        let leaf = read_part(nodes, marks, computation, part, known, reads)?;
+        return Ok(leaf);
+    };
+    let told = read_tree(nodes, marks, computation, first, known, reads)?;
+    let Some(next) = next_part(part, told) else {
+        return Ok(part_decided(part, told));
+    };
+    let second = read_tree(nodes, marks, computation, next, known, reads)?;
+    Ok(part_made(part, told, second))
+}
+
+// The same of a part of the whole formula, or of the whole. One that has parts of its own is gone over where this is asked for.
+#[inline(always)]
+fn read_side(
+    nodes: &Nodes,
+    marks: &Marks,
+    computation: &Computation,
+    deep: bool,
+    part: &Formula,
+    known: &mut Vec<Known>,
+    reads: &mut Vec<NodeId>,
+) -> Result<Part, NoMemory>
+    requires { AsksFor computation.now.recipe (tree part.now) known.old.items }
+    ensures read { OnOk result (HasReadHere nodes.now.items marks.now.marked computation.now.recipe known.old.items reads.old.items known.new.items reads.new.items) }
+    ensures even { length known.new.items + length reads.old.items ≡ length known.old.items + length reads.new.items }
+    ensures part { IfOk result (λ p. IsPartRead p (tree part.now) known.new.items) }
+{
+    let Some(_first) = first_part(part) else {
+        let leaf = read_part(nodes, marks, computation, part, known, reads)?;
+        return Ok(leaf);
+    };
+    if deep {
+        let told = read_tree(nodes, marks, computation, part, known, reads)?;
+        return Ok(told);
+    }
+    Ok(Part::Open)
 }
 
 // A whole number is what a formula comes to.
@@ -272,7 +338,15 @@ fn put_number(number: i64, outcome: &mut Outcome)
     *outcome = Outcome::Good(Value::Int(number));
 }
 
-// Goes over a formula that is no operation.
+// A truth is what a formula comes to.
+#[inline(always)]
+fn put_truth(truth: bool, outcome: &mut Outcome)
+    ensures { outcome.new ≡ Good (value.Bool truth) }
+{
+    *outcome = Outcome::Good(Value::Bool(truth));
+}
+
+// Goes over a formula that comes to what is told of it: one that is no operation, or whose left operand may decide.
 #[inline(always)]
 fn read_alone(
     nodes: &Nodes,
@@ -288,9 +362,14 @@ fn read_alone(
     ensures even { length known.new.items + length reads.old.items ≡ length known.old.items + length reads.new.items }
     ensures walked { IfOk result (λ w. IsWalked w computation.now.recipe known.new.items outcome.new) }
 {
-    match read_part(nodes, marks, computation, formula, known, reads)? {
+    let deep = computation.slots().len() <= MOST_SLOTS;
+    match read_side(nodes, marks, computation, deep, formula, known, reads)? {
         Part::Number(number) => {
             put_number(number, outcome);
+            Ok(Walked::Ended)
+        }
+        Part::Truth(truth) => {
+            put_truth(truth, outcome);
             Ok(Walked::Ended)
         }
         Part::Slot(slot) => Ok(Walked::Left(slot)),
@@ -317,12 +396,13 @@ fn read_pair(
     ensures even { length known.new.items + length reads.old.items ≡ length known.old.items + length reads.new.items }
     ensures walked { IfOk result (λ w. IsWalked w computation.now.recipe known.new.items outcome.new) }
 {
-    let first = match read_part(nodes, marks, computation, left, known, reads)? {
+    let deep = computation.slots().len() <= MOST_SLOTS;
+    let first = match read_side(nodes, marks, computation, deep, left, known, reads)? {
         Part::Number(number) => number,
         Part::Slot(slot) => return Ok(Walked::Left(slot)),
-        Part::Open => return Ok(Walked::Open),
+        _ => return Ok(Walked::Open),
     };
-    match read_part(nodes, marks, computation, right, known, reads)? {
+    match read_side(nodes, marks, computation, deep, right, known, reads)? {
         Part::Number(second) => {
             if operate_numbers(op, first, second, outcome) {
                 return Ok(Walked::Ended);
@@ -330,12 +410,12 @@ fn read_pair(
             Ok(Walked::Open)
         }
         Part::Slot(slot) => Ok(Walked::Left(slot)),
-        Part::Open => Ok(Walked::Open),
+        _ => Ok(Walked::Open),
     }
 }
 
-// Goes over a formula once, and reads the slots that it needs where it comes to them: one that is a whole number, or an operation between
-// two such.
+// Goes over a formula once, and reads the slots that it needs where it comes to them: one that is a whole number or a truth, or is made of
+// such by operations and conditions.
 #[inline(always)]
 fn walk(
     nodes: &Nodes,
@@ -355,7 +435,7 @@ fn walk(
     match formula {
         Formula::Bin(op, left, right) => {
             if decides(*op) {
-                return Ok(Walked::Open);
+                return read_alone(nodes, marks, computation, formula, known, reads, outcome);
             }
             read_pair(
                 nodes,
