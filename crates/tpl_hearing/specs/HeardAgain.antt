@@ -72,3 +72,11 @@ pub record IsFront (before now : Outcomes) : Type 0 where
 pub record StandsAs (w : Signals) (k : Memos) (n : ℕ) (o : Outcome) : Type 0 where
   pub still : (hosts : Hosts) → AreKept hosts w k → settled hosts w k (n ∷ []) ≡ record { memos = k; runs = [] }
   pub value : (hosts : Hosts) → AreKept hosts w k → o ≡ value_of hosts w n []
+
+-- A name that wasn't heard shows the outcome of before as it stands, and comes next.
+pub record StandsNext (before : Outcomes) (w : Signals) (k : Memos) (n : ℕ) (earlier now : Outcomes) : Type 0 where
+  pub outcome : Outcome
+  pub was : heard_of before n ≡ Some outcome
+  pub new : heard_of earlier n ≡ None
+  pub stands : StandsAs w k n outcome
+  pub all : now ≡ earlier ++ (n, outcome) ∷ []

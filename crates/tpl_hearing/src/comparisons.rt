@@ -1,11 +1,12 @@
 // What is heard of names while a page is brought up to date, beside what was heard of them before.
-ghost use Rattle.std.specs.Prelude.{◌≡◌, ◌++◌, ◌∷◌, [], slice_get, true, None, Some, IfNone, IfOk, IfSome, OnOk};
+ghost use Rattle.std.specs.Prelude.{◌≡◌, ◌++◌, ◌∷◌, [], false, slice_get, true, None, Some, IfNone, IfOk, IfSome, OnOk};
 ghost use Rattle.std.specs.Map.{keys_of};
 ghost use Rattle.signal_laws.specs.ReadLaws.{with_name};
 ghost use Rattle.tpl_hearing.specs.Heard.{heard_of, scene, CanSettle, Hears, Outcomes as Heard};
-ghost use Rattle.tpl_hearing.specs.HeardAgain.{AllCompared, AreCompared, AreSame, IsAsBefore, IsCompared};
+ghost use Rattle.tpl_hearing.specs.HeardAgain.{AllCompared, AreCompared, AreSame, IsAsBefore, IsCompared, StandsNext};
 
 use crate::outcomes::{Outcomes, settle_compared};
+use crate::still::stands_as;
 use sig_base::{NoMemory, NodeId, Outcome};
 use sig_computed::RunNote;
 use sig_graph::Graph;
@@ -18,11 +19,13 @@ use std::marker::Model;
 fn note(noted: &mut Vec<(NodeId, bool)>, id: NodeId, same: bool) -> Result<(), NoMemory>
     ensures { (before heard : Heard) → AllCompared before heard noted.old.items → IsCompared before heard id same → OnOk result (AllCompared before heard noted.new.items) }
 {
-    noted.push((id, same))?;
+    noted.reserve(1)?;
+    noted.push_reserved((id, same));
     Ok(())
 }
 
 // It is noted up to a place that this is known of a name: it holds wherever it stands.
+#[inline(never)]
 fn fill(
     noted: &mut Vec<(NodeId, bool)>,
     count: usize,
@@ -89,6 +92,7 @@ impl Comparisons {
     }
 
     // It is known of the name that was heard at a place.
+    #[inline(always)]
     fn put(&mut self, place: usize, id: NodeId, same: bool) -> Result<(), NoMemory>
         ensures { (before heard : Heard) → AllCompared before heard self.old → IsCompared before heard id same → OnOk result (AllCompared before heard self.new) }
     {
@@ -186,6 +190,7 @@ impl Rehearing {
     /// # Errors
     ///
     /// `NoMemory` alone.
+    #[inline(always)]
     pub(crate) fn put(&mut self, id: NodeId, outcome: Outcome, same: bool) -> Result<(), NoMemory>
         requires { heard_of self.old.heard id ≡ None }
         ensures heard { OnOk result (self.new.heard ≡ self.old.heard ++ (id, outcome) ∷ []) }
@@ -198,14 +203,35 @@ impl Rehearing {
     }
 }
 
-/// Hears a name; whether it has the outcome of before, which is compared the first time alone. What it asks of graph, shelf and comparisons it
-/// gives back clause by clause, so that names may be heard one after another; the answer, the name that was added, and what hearing did are told
-/// apart.
-///
-/// # Errors
-///
-/// `NoMemory` alone; names may then have been settled.
-pub(crate) fn hear_compared(
+// Hears the name that is expected next, where it shows the outcome of before as it stands; whether it is so. Else nothing is heard.
+#[inline(always)]
+fn hear_expected(
+    graph: &mut Graph,
+    before: &Outcomes,
+    hearing: &mut Rehearing,
+    id: NodeId,
+) -> Result<bool, NoMemory>
+    ensures graph { graph.new ≡ graph.old }
+    ensures stands { IfOk result (λ s. s ≡ true → StandsNext before.now graph.old.state.signals graph.old.state.memos id hearing.old.heard hearing.new.heard) }
+    ensures other { IfOk result (λ s. s ≡ false → hearing.new.heard ≡ hearing.old.heard) }
+    ensures compared { AreCompared before.now hearing.old → OnOk result (AreCompared before.now hearing.new) }
+{
+    if !hearing.heard.is_next(id) {
+        return Ok(false);
+    }
+    let Some(was) = before.here(hearing.heard.count(), id) else {
+        return Ok(false);
+    };
+    if !stands_as(graph, id, was) {
+        return Ok(false);
+    }
+    hearing.put(id, was.copy()?, true)?;
+    Ok(true)
+}
+
+// Hears a name, whatever is known of it. Its clauses are those of hearing a name.
+#[inline(never)]
+fn hear_any(
     graph: &mut Graph,
     shelf: &mut Shelf,
     before: &Outcomes,
@@ -231,5 +257,40 @@ pub(crate) fn hear_compared(
     let place = hearing.heard.count();
     let (outcome, same) = settle_compared(graph, shelf, before, place, id, notes)?;
     hearing.put(id, outcome, same)?;
+    Ok(same)
+}
+
+/// Hears a name; whether it has the outcome of before, which is compared the first time alone. What it asks of graph, shelf and comparisons it
+/// gives back clause by clause, so that names may be heard one after another; the answer, the name that was added, and what hearing did are told
+/// apart.
+///
+/// # Errors
+///
+/// `NoMemory` alone; names may then have been settled.
+#[inline(always)]
+pub(crate) fn hear_compared(
+    graph: &mut Graph,
+    shelf: &mut Shelf,
+    before: &Outcomes,
+    hearing: &mut Rehearing,
+    id: NodeId,
+    notes: &mut Vec<RunNote>,
+) -> Result<bool, NoMemory>
+    requires can { CanSettle (scene graph.old (⟦<Shelf as Lent>⟧.asked shelf.old) notes.old.items) }
+    requires counted { ⟦<Shelf as Lent>⟧.counted shelf.old }
+    requires compared { AreCompared before.now hearing.old }
+    ensures same { IfOk result (λ same. IsCompared before.now hearing.new.heard id same) }
+    ensures names { OnOk result (keys_of hearing.new.heard ≡ with_name (keys_of hearing.old.heard) id) }
+    ensures after { OnOk result (Hears
+        (scene graph.old (⟦<Shelf as Lent>⟧.asked shelf.old) notes.old.items) (scene graph.new (⟦<Shelf as Lent>⟧.asked shelf.new) notes.new.items)
+        (λ hosts. ⟦<Shelf as Lent>⟧.answers hosts shelf.old) (λ hosts. ⟦<Shelf as Lent>⟧.answers hosts shelf.new) hearing.old.heard hearing.new.heard) }
+    ensures can { OnOk result (CanSettle (scene graph.new (⟦<Shelf as Lent>⟧.asked shelf.new) notes.new.items)) }
+    ensures counted { OnOk result (⟦<Shelf as Lent>⟧.counted shelf.new) }
+    ensures compared { OnOk result (AreCompared before.now hearing.new) }
+{
+    if hear_expected(graph, before, hearing, id)? {
+        return Ok(true);
+    }
+    let same = hear_any(graph, shelf, before, hearing, id, notes)?;
     Ok(same)
 }

@@ -158,6 +158,7 @@ impl NameList {
     }
 
     /// The name at a place.
+    #[inline(always)]
     pub fn at(&self, place: usize) -> Option<NodeId>
         ensures { result ≡ slice_get self.now place }
     {
@@ -168,6 +169,7 @@ impl NameList {
     }
 
     /// Whether a name stands at a place.
+    #[inline(always)]
     pub fn is_at(&self, place: usize, id: NodeId) -> bool
         ensures { result ≡ true → slice_get self.now place ≡ Some id }
     {
@@ -193,6 +195,7 @@ impl NameList {
     /// # Errors
     ///
     /// `NoMemory` alone.
+    #[inline(never)]
     pub fn put(&mut self, alloc: Global, count: usize, id: NodeId) -> Result<(), NoMemory>
         requires within { count ≤ length self.old }
         requires new { list_any (nat_eq id) (take count self.old) ≡ false }

@@ -58,6 +58,7 @@ fn outcome_at(outcomes: &[Outcome], place: usize) -> Option<&Outcome>
 }
 
 // A name is the next one behind so many.
+#[inline(always)]
 fn expect(alloc: Global, names: &mut NameList, count: usize, id: NodeId) -> Result<(), NoMemory>
     requires within { count ≤ length names.old }
     requires new { list_any (nat_eq id) (take count names.old) ≡ false }
@@ -141,8 +142,9 @@ impl Outcomes {
         find_all(&self.outcomes);
     }
 
-    // Whether a name is the next one that is expected, and so wasn't heard.
-    fn is_next(&self, id: NodeId) -> bool
+    /// Whether a name is the next one that is expected, and so wasn't heard.
+    #[inline(always)]
+    pub(crate) fn is_next(&self, id: NodeId) -> bool
         ensures { result ≡ true → heard_of self.now id ≡ None }
     {
         let _count = self.names.count();
@@ -175,8 +177,9 @@ impl Outcomes {
         self.find_listed(id)
     }
 
-    // The outcome that was heard at a place, where it is that of this name.
-    fn here(&self, place: usize, id: NodeId) -> Option<&Outcome>
+    /// The outcome that was heard at a place, where it is that of this name.
+    #[inline(always)]
+    pub(crate) fn here(&self, place: usize, id: NodeId) -> Option<&Outcome>
         ensures { IfSome result (λ o. heard_of self.now id ≡ Some o.now) }
     {
         let _count = self.names.count();
@@ -248,13 +251,15 @@ impl Outcomes {
     /// # Errors
     ///
     /// `NoMemory` alone.
+    #[inline(always)]
     pub(crate) fn put(&mut self, id: NodeId, outcome: Outcome) -> Result<(), NoMemory>
         requires { heard_of self.old id ≡ None }
         ensures { OnOk result (self.new ≡ self.old ++ (id, outcome) ∷ []) }
     {
         let alloc = *self.outcomes.allocator();
         expect(alloc, &mut self.names, self.outcomes.len(), id)?;
-        self.outcomes.push(outcome)?;
+        self.outcomes.reserve(1)?;
+        self.outcomes.push_reserved(outcome);
         Ok(())
     }
 }

@@ -1,34 +1,35 @@
-use Rattle.std.proofs.Common.{◌≡◌, None, ap, subst, ◌∙◌}
-use Rattle.std.specs.Prelude.{IfNone}
+use Rattle.std.proofs.Common.{ap, ◌∙◌}
+use Rattle.std.specs.Map.{keys_of}
+use Rattle.signal_laws.specs.ReadLaws.{with_name}
 use Rattle.tpl_hearing.specs.Heard.{heard_of}
-use Rattle.tpl_hearing.proofs.Names.{joins_last, joins_not, last_heard, nothing_heard}
+use Rattle.tpl_hearing.proofs.Names.{joins_last, last_heard}
+use Rattle.tpl_hearing.proofs.Unmoved.{stood_heard}
 use Rattle.tpl_hearing.proofs.comparisons.hear_compared.Goals as goal
 
-pub returns-in-Some-clause-names : goal.returns-in-Some-clause-names
-returns-in-Some-clause-names g c = let is = c.in-Some.ensures.same in joins_not c.args.hearing.now.heard c.args.id is.outcome is.is
-
-pub returns-in-Some-clause-after : goal.returns-in-Some-clause-after
-returns-in-Some-clause-after g c = nothing_heard _ _ c.args.hearing.now.heard c.requires.can.idle
-
-pub put-requires : goal.put-requires
-put-requires g c = subst (λ o. IfNone o (heard_of c.args.hearing.now.heard c.args.id ≡ None)) c.in_default.is c.known.ensures.none
-
-pub returns-clause-same : goal.returns-clause-same
-returns-clause-same g c =
-    let none = subst (λ o. IfNone o (heard_of c.args.hearing.now.heard c.args.id ≡ None)) c.in_default.is c.known.ensures.none in
+pub returns-then-branch-clause-same : goal.returns-then-branch-clause-same
+returns-then-branch-clause-same g c =
+    let s = c.in_ok-hear_expected.ensures.stands c.if-branch.true in
     record {
-      outcome = c.in_ok-outcome.outcome;
-      is = ap (λ h. heard_of h c.args.id) c.in_ok-put.ensures.heard ∙ last_heard c.args.hearing.now.heard c.args.id c.in_ok-outcome.outcome none;
-      was = c.in_ok-outcome.ensures.same;
+      outcome = s.outcome;
+      is = ap (λ h. heard_of h c.args.id) s.all ∙ last_heard c.args.hearing.now.heard c.args.id s.outcome s.new;
+      was = λ e. s.was;
     }
+
+pub returns-then-branch-clause-names : goal.returns-then-branch-clause-names
+returns-then-branch-clause-names g c =
+    let s = c.in_ok-hear_expected.ensures.stands c.if-branch.true in
+    joins_last c.args.hearing.now.heard c.hear_expected.new.hearing.heard c.args.id s.outcome s.new s.all
+
+pub returns-then-branch-clause-after : goal.returns-then-branch-clause-after
+returns-then-branch-clause-after g c =
+    let s = c.in_ok-hear_expected.ensures.stands c.if-branch.true in
+    rw c.in_ok-hear_expected.ensures.graph (stood_heard _ _ c.args.hearing.now.heard c.hear_expected.new.hearing.heard c.args.id s.outcome
+    c.requires.can.idle s.stands s.all)
 
 pub returns-clause-names : goal.returns-clause-names
 returns-clause-names g c =
-    let none = subst (λ o. IfNone o (heard_of c.args.hearing.now.heard c.args.id ≡ None)) c.in_default.is c.known.ensures.none in
-    joins_last c.args.hearing.now.heard c.put.new.self.heard c.args.id c.in_ok-outcome.outcome none c.in_ok-put.ensures.heard
+    c.in_ok-same.ensures.names ∙ ap (λ h. with_name (keys_of h) c.args.id) (c.in_ok-hear_expected.ensures.other c.if-branch.false)
 
 pub returns-clause-after : goal.returns-clause-after
-returns-clause-after g c = c.in_ok-outcome.ensures.after c.args.hearing.now.heard c.put.new.self.heard c.in_ok-put.ensures.heard
-
-pub returns-clause-compared : goal.returns-clause-compared
-returns-clause-compared g c = c.in_ok-put.ensures.compared c.args.before.now c.requires.compared c.in_ok-outcome.ensures.same
+returns-clause-after g c =
+    rw (← c.in_ok-hear_expected.ensures.graph, ← (c.in_ok-hear_expected.ensures.other c.if-branch.false)) c.in_ok-same.ensures.after
