@@ -5,4 +5,5 @@ mod HeardAgain
 mod Fronts
 mod Paired
 mod Unmoved
+mod Stood
 pub mod Shared

@@ -1,13 +1,15 @@
 // Names that were heard at another time, heard again.
-ghost use Rattle.std.specs.Prelude.{◌≡◌, ◌<◌, ◌≤◌, [], length, slice_get, take, true, Some, IfOk, IfSome, OnOk};
+ghost use Rattle.std.specs.Prelude.{◌≡◌, ◌+◌, ◌<◌, ◌≤◌, [], length, slice_get, take, true, Some, IfOk, IfSome, OnOk};
 ghost use Rattle.std.specs.List.{zip};
 ghost use Rattle.std.specs.Map.{keys_of};
 ghost use Rattle.signal_laws.specs.ReadLaws.{with_name};
 ghost use Rattle.tpl_hearing.specs.Heard.{scene, CanSettle, Hears};
 ghost use Rattle.tpl_hearing.specs.HeardAgain.{heard_by, AreCompared, AreHeardAgain, IsAsBefore, IsCompared, IsFront};
+ghost use Rattle.tpl_hearing.specs.Standing.{StandBetween};
 
 use crate::comparisons::{Rehearing, hear_compared};
-use crate::outcomes::{Outcomes, settle_again};
+use crate::outcomes::{Outcomes, settle_name};
+use crate::still::stands_as;
 use sig_base::{NoMemory, NodeId, Outcome};
 use sig_computed::RunNote;
 use sig_graph::Graph;
@@ -126,6 +128,56 @@ fn pair_at<'a>(ids: &[NodeId], outcomes: &'a [Outcome], place: usize) -> (NodeId
     (ids[place], &outcomes[place])
 }
 
+// The first place from this one on where a name doesn't show the outcome of before as it stands, or the end.
+#[inline(never)]
+fn standing_up_to(graph: &mut Graph, ids: &[NodeId], outcomes: &[Outcome], from: usize) -> usize
+    requires within { length outcomes.now ≤ length ids.now }
+    requires from { from ≤ length outcomes.now }
+    ensures same { graph.new ≡ graph.old }
+    ensures stand { StandBetween graph.old.state.signals graph.old.state.memos (zip ids.now outcomes.now) from result }
+{
+    let count = outcomes.len();
+    for place in from..count {
+        let (id, was) = pair_at(ids, outcomes, place);
+        if !stands_as(graph, id, was) {
+            return place;
+        }
+    }
+    count
+}
+
+// Settles the name at a place, before which each name has the outcome of before: what was heard then, or nothing where it has that outcome too.
+#[inline(never)]
+fn hear_at(
+    graph: &mut Graph,
+    shelf: &mut Shelf,
+    before: &Outcomes,
+    place: usize,
+    notes: &mut Vec<RunNote>,
+) -> Result<Option<Rehearing>, NoMemory>
+    requires place { place < length before.now }
+    requires can { CanSettle (scene graph.old (⟦<Shelf as Lent>⟧.asked shelf.old) notes.old.items) }
+    requires counted { ⟦<Shelf as Lent>⟧.counted shelf.old }
+    ensures front { IfOk result (λ r. IfSome r (λ h. IsFront before.now h.heard)) }
+    ensures compared { IfOk result (λ r. IfSome r (λ h. AreCompared before.now h)) }
+    ensures after { IfOk result (λ r. Hears
+        (scene graph.old (⟦<Shelf as Lent>⟧.asked shelf.old) notes.old.items) (scene graph.new (⟦<Shelf as Lent>⟧.asked shelf.new) notes.new.items)
+        (λ hosts. ⟦<Shelf as Lent>⟧.answers hosts shelf.old) (λ hosts. ⟦<Shelf as Lent>⟧.answers hosts shelf.new)
+        (take place before.now) (heard_by r (take (place + 1) before.now))) }
+    ensures can { OnOk result (CanSettle (scene graph.new (⟦<Shelf as Lent>⟧.asked shelf.new) notes.new.items)) }
+    ensures counted { OnOk result (⟦<Shelf as Lent>⟧.counted shelf.new) }
+{
+    let _count = before.count();
+    let (id, was) = before.at(place);
+    let outcome = settle_name(graph, shelf, id, notes)?;
+    if outcome.same(was) {
+        return Ok(None);
+    }
+    let mut hearing = front(*notes.allocator(), before, place)?;
+    hearing.put(id, outcome, false)?;
+    Ok(Some(hearing))
+}
+
 /// Hears all names that were heard before again, in their order, up to the first that has another outcome: what was heard then, or nothing where
 /// each has the outcome of before.
 ///
@@ -150,13 +202,13 @@ pub fn hear_all_again(
 {
     let count = before.count();
     let (ids, outcomes) = before.lists();
-    for place in 0..count {
-        let (id, was) = pair_at(ids, outcomes, place);
-        if let Some(outcome) = settle_again(graph, shelf, id, was, notes)? {
-            let mut hearing = front(*notes.allocator(), before, place)?;
-            hearing.put(id, outcome, false)?;
+    let mut place = standing_up_to(graph, ids, outcomes, 0);
+    while place < count {
+        if let Some(hearing) = hear_at(graph, shelf, before, place, notes)? {
             return Ok(Some(hearing));
         }
+        let next = standing_up_to(graph, ids, outcomes, place + 1);
+        place = next;
     }
     Ok(None)
 }
