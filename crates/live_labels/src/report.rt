@@ -57,6 +57,7 @@ pub fn put_entry(told: &mut Vec<Entry>, entry: Entry) -> Result<(), NoMemory>
 }
 
 // What is told of a run.
+#[inline(always)]
 fn run_entry(alloc: Global, names: &[Name], note: &RunNote) -> Result<Entry, NoMemory>
     ensures { IfOk result (λ e. e ≡ note_entry names.now (note_of note.now)) }
 {
@@ -289,7 +290,8 @@ fn tell_any(told: &mut Vec<Entry>, labels: &mut Labels, event: &Event) -> Result
     Ok(())
 }
 
-// Tells of an event, and what is called otherwise from then on. Most events are runs and changes, of which nothing is called otherwise.
+// Tells of an event, and what is called otherwise from then on. Most events are runs, changes, evaluated bodies and values that are logged, of
+// which nothing is called otherwise.
 fn tell_one(told: &mut Vec<Entry>, labels: &mut Labels, event: &Event) -> Result<(), NoMemory>
     ensures entries { OnOk result (told.new.items ≡ told.old.items ++ entries_told (labels_of labels.old) event.now) }
     ensures labels { OnOk result (labels_of labels.new ≡ renamed event.now (labels_of labels.old)) }
@@ -301,6 +303,15 @@ fn tell_one(told: &mut Vec<Entry>, labels: &mut Labels, event: &Event) -> Result
             Ok(())
         }
         Event::Change(_, _) => Ok(()),
+        Event::Body(id, reads) => {
+            let entry = effect_entry(*told.allocator(), labels, *id, reads)?;
+            put_entry(told, entry)?;
+            Ok(())
+        }
+        Event::Log(value) => {
+            put_entry(told, Entry::Log(value.copy()?))?;
+            Ok(())
+        }
         _ => {
             tell_any(told, labels, event)?;
             Ok(())
@@ -308,14 +319,14 @@ fn tell_one(told: &mut Vec<Entry>, labels: &mut Labels, event: &Event) -> Result
     }
 }
 
-// Tells of events, one by one, each by the labels of its moment. There is room for one entry behind what is told of them.
+// Tells of events, one by one, each by the labels of its moment. There is room for two entries behind what is told of them.
 #[inline(never)]
 fn tell_each(alloc: Global, labels: &mut Labels, events: &[Event]) -> Result<Vec<Entry>, NoMemory>
     ensures entries { (ts : List plain.Event) → AreTold events.now ts → IfOk result (λ es. es.items ≡ entries_of (labels_of labels.old) ts) }
     ensures labels { (ts : List plain.Event) → AreTold events.now ts → OnOk result (labels_of labels.new ≡ labels_after ts (labels_of labels.old)) }
     ensures names { OnOk result (KeepsNames labels.old labels.new) }
 {
-    let mut told = Vec::with_capacity(alloc, events.len() + 1)?;
+    let mut told = Vec::with_capacity(alloc, events.len() + 2)?;
     for event in events {
         tell_one(&mut told, labels, event)?;
     }
