@@ -1,1 +1,2 @@
 mod Nones
+mod Unrefused

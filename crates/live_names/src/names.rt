@@ -66,16 +66,25 @@ impl Names {
         None
     }
 
+    // What a name stands for, if it was made. It is looked for, and its place is kept.
+    #[inline(never)]
+    fn sought(&self, name: &Name) -> Option<Meaning>
+        ensures { result ≡ meaning_of self.now name.now }
+    {
+        let (place, _, meaning) = self.meanings.get_full(name)?;
+        self.last.set(place);
+        Some(*meaning)
+    }
+
     /// What a name stands for, if it was made.
+    #[inline(always)]
     pub fn meaning_of(&self, name: &Name) -> Option<Meaning>
         ensures { result ≡ meaning_of self.now name.now }
     {
         if let Some(meaning) = self.meant_last(name) {
             return Some(meaning);
         }
-        let (place, _, meaning) = self.meanings.get_full(name)?;
-        self.last.set(place);
-        Some(*meaning)
+        self.sought(name)
     }
 
     /// The number of what a name stands for, 0 for a name that wasn't made.

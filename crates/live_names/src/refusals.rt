@@ -1,5 +1,5 @@
 // Why a name is refused at its place.
-ghost use Rattle.std.specs.Prelude.{◌≡◌, List, IfOk, map, option_map};
+ghost use Rattle.std.specs.Prelude.{◌≡◌, ℕ, List, None, IfOk, IsTrue, map, option_map};
 ghost use Rattle.effect_tables.specs.Bodies.{thing_of};
 ghost use Rattle.sig_host.specs.Hosts.{HostPlace};
 ghost use Rattle.effect_world.specs.Wholes.{whole_of};
@@ -48,12 +48,23 @@ fn misuse(world: &World, used: &Use, meaning: Meaning) -> Result<Option<Refusal>
     Ok(Some(Refusal::Kind(used.name.copy()?)))
 }
 
-/// Why a name is refused at its place, if it is, by what it stands for.
-///
-/// # Errors
-///
-/// `NoMemory` where memory ran out.
-pub fn refusal_at(
+// Whether a name stands for something that isn't gone and is what its place needs. Then it isn't refused.
+#[inline(always)]
+fn is_met(world: &World, need: Need, meaning: Option<Meaning>) -> bool
+    ensures { IsTrue result → (asked : List HostPlace) (n : List ℕ) → refusal_at (whole_of asked world.now) (n, need) meaning ≡ None }
+{
+    let Some(known) = meaning else {
+        return false;
+    };
+    if meets(need, known.kind) {
+        return !is_gone(world, known.kind, known.number);
+    }
+    false
+}
+
+// Why a name is refused at its place, if it is, by what it stands for: one cause after the other is looked for.
+#[inline(never)]
+fn sought_refusal(
     world: &World,
     used: &Use,
     meaning: Option<Meaning>,
@@ -69,6 +80,26 @@ pub fn refusal_at(
             Ok(refusal)
         }
     }
+}
+
+/// Why a name is refused at its place, if it is, by what it stands for. Mostly it isn't, which is seen first.
+///
+/// # Errors
+///
+/// `NoMemory` where memory ran out.
+#[inline(always)]
+pub fn refusal_at(
+    world: &World,
+    used: &Use,
+    meaning: Option<Meaning>,
+) -> Result<Option<Refusal>, NoMemory>
+    ensures { (asked : List HostPlace) → IfOk result (λ r. r ≡ refusal_at (whole_of asked world.now) (use_of used.now) meaning) }
+{
+    if is_met(world, used.need, meaning) {
+        return Ok(None);
+    }
+    let refusal = sought_refusal(world, used, meaning)?;
+    Ok(refusal)
 }
 
 // Why the own name of an effect is refused in its body, if it is.
