@@ -120,21 +120,15 @@ impl Report {
         self.take_command();
     }
 
-    /// Takes in what an item told. Lines or frames that are printed of it now are appended. What told nothing is taken in at once.
-    ///
-    /// # Errors
-    ///
-    /// `NoMemory` where it finds no room; a front of them may be appended, and the report serves no more.
+    // Takes in what an item told, of which lines or frames may be printed.
+    #[inline(never)]
     #[tactic(auto, unfolding(crate::specs::Reports::still, crate::specs::Reports::counted))]
-    pub fn take_entries(&mut self, out: &mut Vec<u8>, entries: &[Entry]) -> Result<(), NoMemory>
+    fn take_told(&mut self, out: &mut Vec<u8>, entries: &[Entry]) -> Result<(), NoMemory>
         requires { counted self.old < 2 ^ 127 }
         ensures prints { OnOk result ((is : List AnItem) (es : List AnEntry) → out.new.items ++ still self.new is es ≡ out.old.items ++ still self.old is (entries.now ++ es)) }
         ensures sized { OnOk result (AllByRecursion IsSizedEntry entries.now) }
         ensures counted { OnOk result (counted self.new ≤ counted self.old + 2 ^ 64) }
     {
-        if entries.is_empty() {
-            return Ok(());
-        }
         match self {
             Report::Lines { trace } => {
                 put_entries(out, entries, *trace)?;
@@ -151,6 +145,26 @@ impl Report {
                 Ok(())
             }
         }
+    }
+
+    /// Takes in what an item told. Lines or frames that are printed of it now are appended. What told nothing is taken in at once.
+    ///
+    /// # Errors
+    ///
+    /// `NoMemory` where it finds no room; a front of them may be appended, and the report serves no more.
+    #[inline(always)]
+    #[tactic(auto, unfolding(crate::specs::Reports::still, crate::specs::Reports::counted))]
+    pub fn take_entries(&mut self, out: &mut Vec<u8>, entries: &[Entry]) -> Result<(), NoMemory>
+        requires { counted self.old < 2 ^ 127 }
+        ensures prints { OnOk result ((is : List AnItem) (es : List AnEntry) → out.new.items ++ still self.new is es ≡ out.old.items ++ still self.old is (entries.now ++ es)) }
+        ensures sized { OnOk result (AllByRecursion IsSizedEntry entries.now) }
+        ensures counted { OnOk result (counted self.new ≤ counted self.old + 2 ^ 64) }
+    {
+        if entries.is_empty() {
+            return Ok(());
+        }
+        self.take_told(out, entries)?;
+        Ok(())
     }
 
     /// Ends the report: the lines that are printed when no item is left are appended.

@@ -1,5 +1,5 @@
 use Rattle.live_report.proofs.Output.{frames_entries, lines_entries, summary_behind}
-use Rattle.live_report.proofs.report.Report.take_entries.Goals as goal
+use Rattle.live_report.proofs.report.Report.take_told.Goals as goal
 
 pub returns-in_ok-put_entries-in-Lines-clause-prints : goal.returns-in_ok-put_entries-in-Lines-clause-prints
 returns-in_ok-put_entries-in-Lines-clause-prints c = rw c.in-Lines.is (lines_entries c.in-Lines.trace _ _ c.args.entries.now c.in_ok-put_entries-in-Lines.ensures.text)
