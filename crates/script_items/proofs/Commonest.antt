@@ -1,5 +1,5 @@
 -- What the commonest lines say, by the bytes behind their first word and a blank.
-use Rattle.std.proofs.Common.{◌≡◌, ℕ, true, false, List, [], ◌∷◌, ◌++◌, Some, codes, refl, sym, ap, subst, ◌∙◌, inl}
+use Rattle.std.proofs.Common.{◌≡◌, ℕ, true, false, List, [], ◌∷◌, ◌++◌, Some, None, codes, refl, sym, ap, subst, ◌∙◌, inl}
 use Rattle.std.specs.Fmt.{signed_decimal}
 use Rattle.std.proofs.lemmas.List.{append-nil}
 use Rattle.sig_base.specs.declared.scalar.Scalar.{Scalar}
@@ -12,7 +12,7 @@ use Rattle.live_cmd.specs.declared.command.Bare.TheVariants as bares
 use Rattle.live_cmd.specs.declared.command.Command.TheVariants as command
 use Rattle.live_cmd.specs.declared.command.Item.TheVariants as item
 use Rattle.live_cmd.specs.declared.command.Verb.TheVariants as verbs
-use Rattle.live_cmd.specs.Grammar.{bare, commands, verb, set, Said, Writes}
+use Rattle.live_cmd.specs.Grammar.{bare, cell, commands, verb, set, Said, Writes}
 use Rattle.script_items.specs.Briefs.{IsShort}
 use Rattle.script_items.specs.Items.{item_of}
 use Rattle.script_items.specs.Views.{IsPlain}
@@ -56,6 +56,50 @@ plain_set k t p q n v parts e h =
     let told = set_printed p q n v e h in
     let text : line_text commands x ≡ codes "set " ++ t = told.0 ∙ ap (λ (bs : List ℕ). codes "set " ++ bs) (sym parts) in
     inl (x, subst (Writes x) text told.1, refl, rw (name_is p n e).1 (set_item k p q v h))
+
+-- the text of a cell and its value
+cell_text : (p q d : List ℕ) → q ≡ d → codes "cell " ++ ((p ++ []) ++ (codes " = " ++ ((d ++ []) ++ []))) ≡ codes "cell " ++ (p ++ (codes " = " ++ q))
+cell_text p q d is =
+    ap (λ (bs : List ℕ). codes "cell " ++ (bs ++ (codes " = " ++ ((d ++ []) ++ [])))) (append-nil p)
+    ∙ ap (λ (bs : List ℕ). codes "cell " ++ (p ++ (codes " = " ++ bs))) (append-nil (d ++ []) ∙ append-nil d ∙ sym is)
+
+-- what is printed of `cell`, a name, and a whole number or a truth
+cell_printed : (p q n : List ℕ) (v : Scalar) → Some n ≡ name_of (word p) → IsShort v q →
+    (line_text commands (cell, (p, (v, (None, (None, tt))))) ≡ codes "cell " ++ (p ++ (codes " = " ++ q)))
+    × Writes (cell, (p, (v, (None, (None, tt))))) (line_text commands (cell, (p, (v, (None, (None, tt))))))
+cell_printed p q n (scalar.Int z) e h = (
+  cell_text p q (signed_decimal z) h.1,
+  text_writes commands (cell, (p, (scalar.Int z, (None, (None, tt))))) refl
+      (((name_is p n e).0, name_word p (name_is p n e).0), (refl, ((refl, h.0), (tt, (tt, tt))))),
+)
+cell_printed p q n (scalar.Bool true) e h = (
+  cell_text p q (codes "true") h,
+  text_writes commands (cell, (p, (scalar.Bool true, (None, (None, tt))))) refl
+      (((name_is p n e).0, name_word p (name_is p n e).0), (refl, ((refl, refl), (tt, (tt, tt))))),
+)
+cell_printed p q n (scalar.Bool false) e h = (
+  cell_text p q (codes "false") h,
+  text_writes commands (cell, (p, (scalar.Bool false, (None, (None, tt))))) refl
+      (((name_is p n e).0, name_word p (name_is p n e).0), (refl, ((refl, refl), (tt, (tt, tt))))),
+)
+cell_printed p q n (scalar.Text t) e h = absurd h
+
+-- what it is
+cell_item : (k : ℕ) (p q : List ℕ) (v : Scalar) → IsShort v q → item.Do (command.Cell p v None None) ≡ item_of k (cell, (p, (v, (None, (None, tt)))))
+cell_item k p q (scalar.Int z) h = refl
+cell_item k p q (scalar.Bool true) h = refl
+cell_item k p q (scalar.Bool false) h = refl
+cell_item k p q (scalar.Text t) h = absurd h
+
+-- `cell`, a name, and a whole number or a truth
+pub plain_cell : (k : ℕ) (t p r q n : List ℕ) (v : Scalar) → t ≡ p ++ 32 ∷ r → r ≡ codes "= " ++ q → Some n ≡ name_of (word p) → IsShort v q →
+    IsPlain (k, codes "cell " ++ t) (item.Do (command.Cell n v None None))
+plain_cell k t p r q n v parts rest e h =
+    let x : Said = (cell, (p, (v, (None, (None, tt))))) in
+    let told = cell_printed p q n v e h in
+    let text : line_text commands x ≡ codes "cell " ++ t =
+    told.0 ∙ ap (λ (bs : List ℕ). codes "cell " ++ (p ++ 32 ∷ bs)) (sym rest) ∙ ap (λ (bs : List ℕ). codes "cell " ++ bs) (sym parts) in
+    inl (x, subst (Writes x) text told.1, refl, rw (name_is p n e).1 (cell_item k p q v h))
 
 -- `flush`
 pub plain_flush : (k : ℕ) → IsPlain (k, codes "flush") (item.Do (command.Bare bares.Flush))

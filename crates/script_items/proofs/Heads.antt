@@ -1,12 +1,17 @@
 -- What was found in a line says what its bytes begin or end.
-use Rattle.std.proofs.Common.{◌≡◌, ℕ, Bool, true, false, List, Option, Some, None, codes, refl, sym, subst, ◌∙◌}
+use Rattle.std.proofs.Common.{◌≡◌, ℕ, Bool, true, false, List, [], ◌++◌, Option, Some, None, codes, refl, sym, ap, subst, ◌∙◌}
 use Rattle.std.specs.Prelude.{MatchOption}
 use Rattle.std.specs.Str.{bytes_eq}
+use Rattle.std.proofs.lemmas.List.{append-nil}
 use Rattle.std.proofs.lemmas.Slice.Eq.{bytes_eq-Decides}
+use Rattle.sig_base.specs.Words.{is_name}
+use Rattle.sig_words.specs.Lexemes.{word}
 use Rattle.formula_text.specs.declared.wired.FormulaFault.{FormulaFault}
 use Rattle.line_forms.specs.Forms.{Args}
 use Rattle.line_forms.specs.Told.{unless_faulty}
-use Rattle.line_forms.proofs.Shared.{text_writes}
+use Rattle.line_forms.specs.Printed.{line_text}
+use Rattle.line_forms.specs.Reader.{name_of}
+use Rattle.line_forms.proofs.Shared.{name_is, name_word, text_writes}
 use Rattle.script_items.specs.declared.contents.Head.{Head}
 use Rattle.live_cmd.specs.declared.line.Found.{Found}
 use Rattle.live_cmd.specs.declared.line.Line.{Line}
@@ -66,3 +71,13 @@ head_found bytes f h = subst (λ (g : Found). IsHead bytes (head_told g.line)) (
 -- a line that says nothing begins none
 pub head_none : (bytes : List ℕ) → ((x : Said) → Writes x bytes → ⊥) → IsNoHead bytes
 head_none bytes none = λ x w h. none x w
+
+-- `effect` and a name
+pub effect_writes : (l t n : List ℕ) → l ≡ codes "effect " ++ t → Some n ≡ name_of (word t) → Writes (effect, (n, (None, tt))) l
+effect_writes l t n is e =
+    let told = name_is t n e in
+    let x : Said = (effect, (n, (None, tt))) in
+    let good : is_name n ≡ true = rw told.1 told.0 in
+    let text : line_text commands x ≡ codes "effect " ++ n = ap (λ (bs : List ℕ). codes "effect " ++ bs) (append-nil (n ++ []) ∙ append-nil n) in
+    let line : codes "effect " ++ n ≡ l = ap (λ (bs : List ℕ). codes "effect " ++ bs) told.1 ∙ sym is in
+    subst (Writes x) (text ∙ line) (text_writes commands x refl ((good, name_word n good), (tt, tt)))

@@ -11,5 +11,6 @@ mod Heads
 mod Commonest
 mod Briefs
 mod Plain
+mod Operations
 mod TemplateNumbers
 pub mod Shared

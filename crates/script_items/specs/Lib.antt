@@ -3,3 +3,4 @@ pub mod Items
 pub mod Known
 pub mod Views
 pub mod Briefs
+pub mod Operations

@@ -9,8 +9,10 @@ ghost use Rattle.script_items.specs.Blocks.{block_item, said_head, Block, Ends, 
 ghost use Rattle.live_cmd.specs.Grammar.{Writes};
 ghost use Rattle.script_items.specs.Views.{end_told, head_told};
 
+use crate::common::behind_front;
 use crate::contents::{Content, Head, content_of};
 use formula_text::FormulaFault;
+use line_forms::{Unread, as_name};
 use live_cmd::{Item, Line, read_line};
 use live_entries::Refusal;
 use script_lines::NumberedLine;
@@ -72,8 +74,20 @@ fn end_told(line: &Result<Line, FormulaFault>) -> bool
     matches!(line, Ok(Line::End))
 }
 
-// The first line of a block, where bytes say one.
-fn head_at(alloc: Global, line: &[u8]) -> Result<Option<Head>, NoMemory>
+// The first line of an effect without an owner, where each part of it stands behind one blank: it isn't cut into tokens.
+fn plain_head(alloc: Global, line: &[u8]) -> Result<Head, Unread>
+    ensures { IfOk result (λ h. Writes (said_head h) line.now) }
+{
+    let Some(text) = behind_front(line, b"effect ") else {
+        return Err(Unread::NotThere);
+    };
+    let name = as_name(alloc, text)?;
+    let inside = None;
+    Ok(Head::Effect(name, inside))
+}
+
+// The first line of a block, where the tokens of bytes say one.
+fn head_by_tokens(alloc: Global, line: &[u8]) -> Result<Option<Head>, NoMemory>
     requires { length line.now ≤ MOST_LINE }
     ensures { IfOk result (λ found. MatchOption found (IsNoHead line.now) (λ h. Writes (said_head h) line.now)) }
 {
@@ -82,6 +96,18 @@ fn head_at(alloc: Global, line: &[u8]) -> Result<Option<Head>, NoMemory>
     };
     let head = head_told(&found.line)?;
     Ok(head)
+}
+
+// The first line of a block, where bytes say one.
+fn head_at(alloc: Global, line: &[u8]) -> Result<Option<Head>, NoMemory>
+    requires { length line.now ≤ MOST_LINE }
+    ensures { IfOk result (λ found. MatchOption found (IsNoHead line.now) (λ h. Writes (said_head h) line.now)) }
+{
+    match plain_head(alloc, line) {
+        Ok(head) => Ok(Some(head)),
+        Err(Unread::NotThere) => head_by_tokens(alloc, line),
+        Err(Unread::NoMemory(e)) => Err(e),
+    }
 }
 
 // Whether bytes write an `end`. Where they are the word alone it isn't cut into tokens.

@@ -3,6 +3,7 @@ ghost use Rattle.std.specs.Prelude.{◌≡◌, ◌∷◌, ◌++◌, ℕ, codes, 
 ghost use Rattle.script_items.specs.Views.{IsPlain};
 
 use crate::known::KnownNames;
+use crate::operation::computed;
 use crate::short::short;
 use line_forms::Unread;
 use live_cmd::{Bare, Command, Item, Verb};
@@ -44,6 +45,29 @@ fn set(alloc: Global, known: &mut KnownNames, text: &[u8]) -> Result<Item, Unrea
     Ok(Item::Do(Command::Set { name, value }))
 }
 
+// `cell N = LIT` with a whole number or a truth, behind the word and a blank.
+fn cell(alloc: Global, known: &mut KnownNames, text: &[u8]) -> Result<Item, Unread>
+    ensures { (k : ℕ) → IfOk result (λ i. IsPlain (k, codes "cell " ++ text.now) i) }
+{
+    let Some((name, rest)) = parted(text, b' ') else {
+        return Err(Unread::NotThere);
+    };
+    let Some(value) = behind_front(rest, b"= ") else {
+        return Err(Unread::NotThere);
+    };
+    let Some(value) = short(value) else {
+        return Err(Unread::NotThere);
+    };
+    let name = known.name(alloc, name)?;
+    let (equals, inside) = (None, None);
+    Ok(Item::Do(Command::Cell {
+        name,
+        value,
+        equals,
+        inside,
+    }))
+}
+
 // `flush`.
 fn flush() -> Result<Item, Unread>
     ensures { (k : ℕ) → IfOk result (λ i. IsPlain (k, codes "flush") i) }
@@ -62,8 +86,8 @@ fn word_alone(line: &[u8]) -> Result<Item, Unread>
     Err(Unread::NotThere)
 }
 
-// What stands behind a byte with which bytes begin.
-fn behind(line: &[u8], byte: u8) -> Option<&[u8]>
+/// What stands behind a byte with which bytes begin.
+pub(crate) fn behind(line: &[u8], byte: u8) -> Option<&[u8]>
     ensures { IfSome result (λ rest. line.now ≡ byte ∷ rest.now) }
 {
     let (first, rest) = line.split_first()?;
@@ -81,6 +105,17 @@ pub(crate) fn behind_word(line: &[u8], first: u8, second: u8, third: u8) -> Opti
     Some(rest)
 }
 
+/// What stands behind bytes with which others begin.
+pub(crate) fn behind_front<'a>(line: &'a [u8], front: &[u8]) -> Option<&'a [u8]>
+    ensures { IfSome result (λ rest. line.now ≡ front.now ++ rest.now) }
+{
+    if line.len() < front.len() {
+        return None;
+    }
+    let (first, rest) = line.split_at(front.len());
+    if first == front { Some(rest) } else { None }
+}
+
 /// What one of the commonest lines is; nothing of another, even where it says something.
 pub fn common_item(alloc: Global, known: &mut KnownNames, line: &[u8]) -> Result<Item, Unread>
     ensures { (k : ℕ) → IfOk result (λ i. IsPlain (k, line.now) i) }
@@ -90,6 +125,12 @@ pub fn common_item(alloc: Global, known: &mut KnownNames, line: &[u8]) -> Result
     }
     if let Some(text) = behind_word(line, b's', b'e', b't') {
         return set(alloc, known, text);
+    }
+    if let Some(text) = behind_front(line, b"computed ") {
+        return computed(alloc, known, text);
+    }
+    if let Some(text) = behind_front(line, b"cell ") {
+        return cell(alloc, known, text);
     }
     word_alone(line)
 }

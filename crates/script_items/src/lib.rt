@@ -8,6 +8,7 @@ mod item;
 mod known;
 mod laws;
 mod many_fields;
+mod operation;
 mod quick;
 mod short;
 
