@@ -189,7 +189,7 @@ fn moved_last(graph: &Graph, visited: &Visited, id: NodeId, place: usize) -> Opt
     Some(moved)
 }
 
-// The same apart, for where it is rare.
+// A look at a source as `look` makes it; it stands apart, as it is rare here.
 #[inline(never)]
 fn look_anew(
     graph: &mut Graph,
@@ -479,6 +479,7 @@ fn read_on(graph: &mut Graph, visited: &Visited, frame: &mut Open) -> Result<boo
 
 /// One turn of a frame: it reads on, and where this hasn't ended its run, it takes a step from the phase that it has come to. The turn, the
 /// frame, and what the shelf answers, its counts and its asks have a clause each.
+#[inline(always)]
 pub(crate) fn next_turn(
     alloc: Global,
     graph: &mut Graph,
