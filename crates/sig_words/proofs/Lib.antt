@@ -1,5 +1,6 @@
 mod Uniqueness
 mod Totality
+mod Unescaped
 mod EachToken
 mod Fronts
 mod LexemeLaws

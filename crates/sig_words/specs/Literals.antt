@@ -1,5 +1,6 @@
 -- Texts between quotes, by their characters.
 use Rattle.std.specs.Prelude.{ℕ, ◌-◌, ◌==◌, if◌then◌else◌, List, [], ◌∷◌, Bool, true, false, length, take, drop, encode_utf8_all}
+use Rattle.std.specs.List.{list_any}
 use Rattle.std.specs.Str.{chars}
 
 -- the character that stands behind a backslash for another
@@ -11,6 +12,10 @@ abbrev pub plain : Bool → List ℕ → List ℕ
 plain behind [] = []
 plain true (c ∷ cs) = meaning c ∷ plain false cs
 plain false (c ∷ cs) = if c == 92 then plain true cs else c ∷ plain false cs
+
+-- whether a backslash stands in bytes
+abbrev pub has_backslash : List ℕ → Bool
+has_backslash bs = list_any (λ b. b == 92) bs
 
 -- the bytes of the text that the bytes between the quotes stand for
 unfoldable pub text_of : List ℕ → List ℕ

@@ -3,7 +3,7 @@ ghost use Rattle.std.specs.Prelude.{◌≡◌, ◌∷◌, ◌++◌, ◌<◌, ◌
 ghost use Rattle.std.specs.List.{flat_map};
 ghost use Rattle.sig_base.specs.Printer.{in_quotes};
 ghost use Rattle.sig_words.specs.Lexemes.{text_at};
-ghost use Rattle.sig_words.specs.Literals.{between_quotes, meaning, plain, text_of};
+ghost use Rattle.sig_words.specs.Literals.{between_quotes, has_backslash, meaning, plain, text_of};
 ghost use Rattle.sig_words.specs.Tokens.{IsTokenOf};
 
 use crate::token::{Token, TokenKind, token_bytes};
@@ -52,6 +52,27 @@ fn unescape(alloc: Global, inner: &str) -> Result<String, AllocError>
     Ok(out)
 }
 
+// Whether a backslash stands in bytes.
+fn has_backslash(bytes: &[u8]) -> bool
+    ensures { result ≡ has_backslash bytes.now }
+{
+    bytes.iter().any(|b| *b == b'\\')
+}
+
+// The text that the text between quotes stands for: where no backslash stands in it, the same.
+#[tactic(auto, using(crate::proofs::Unescaped::as_it_is))]
+fn unquoted(alloc: Global, inner: &str) -> Result<Text, TextFault>
+    ensures ok { IfOk result (λ t. t ≡ text_of inner.now) }
+    ensures short { IfOk result (λ t. length t ≤ MOST_TEXT) }
+    ensures long { IsErrOf result TextFault.Long → MOST_TEXT < length (text_of inner.now) }
+{
+    if !has_backslash(inner.as_bytes()) {
+        return Text::new(alloc, inner);
+    }
+    let value = unescape(alloc, inner)?;
+    Text::new(alloc, value.as_str())
+}
+
 #[tactic(auto, unfolding(crate::specs::Literals::between_quotes))]
 fn between_quotes(text: &[u8]) -> &[u8]
     ensures { result.now ≡ between_quotes text.now }
@@ -74,8 +95,7 @@ pub fn literal(alloc: Global, line: &[u8], token: &Token) -> Result<Text, TextFa
     let Ok(inner) = str::from_utf8(between_quotes(token_bytes(line, token))) else {
         unreachable!()
     };
-    let value = unescape(alloc, inner)?;
-    Text::new(alloc, value.as_str())
+    unquoted(alloc, inner)
 }
 
 /// Each character can be written between quotes: a backslash, a quote, LF, CR and a tab with a backslash, any other as it is.
