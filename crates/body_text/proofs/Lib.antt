@@ -6,6 +6,8 @@ mod Judgements
 mod LineByLine
 mod Semantics
 mod Formulas
+mod Indents
+mod LogBodies
 mod Parts
 mod Printer
 mod Slots

@@ -1,8 +1,10 @@
 -- Bodies as they are written: the lines that spell them, and their lists.
 use Rattle.std.specs.Prelude.{ℕ, ◌+◌, List, [], ◌∷◌, ◌++◌, Option, Some, None}
 use Rattle.effect_model.specs.declared.plain.Plain.{Plain}
+use Rattle.effect_model.specs.declared.plain.Plain.TheVariants as statement
 use Rattle.effect_model.specs.Lines.{formula_of, mapped, target_of}
-use Rattle.formula_text.specs.Grammar.{Draft}
+use Rattle.formula_text.specs.Grammar.{leaf, Draft}
+use Rattle.formula_text.specs.Signs.{name}
 use Rattle.formula_text.specs.Refusals.{names, slot_of, slotted, with_name, with_names}
 use Rattle.sig_formula.specs.Trees.{Tree}
 use Rattle.sig_untrack.specs.Stated as stated
@@ -26,6 +28,10 @@ pub data Statements : Type 0 where
   when : Draft → Statements → Statements → Statements
   -- the statements of a nested effect, and those after it
   effect : Statements → Statements → Statements
+
+-- the statement that logs a name
+abbrev pub log_of : List ℕ → Statements
+log_of n = plain (statement.Log (leaf (name n))) done
 
 -- the lines that spell them
 abbrev pub lines_of : Statements → List Line

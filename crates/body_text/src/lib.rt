@@ -8,6 +8,7 @@ mod judge;
 mod laws;
 mod line;
 mod lists;
+mod logging;
 mod named;
 mod read;
 mod reader;

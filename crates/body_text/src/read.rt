@@ -15,8 +15,10 @@ ghost use Rattle.body_text.specs.Views.{answer_held, found_of, judged_read, soun
 use crate::builder::{body_of, sound_lines};
 use crate::judge::{ReadLine, fits, moved, read_at, refusal_of};
 use crate::line::Found;
+use crate::logging::logging;
 use crate::reader::read_line;
 use crate::{Allowance, BodyFault, BodyWhy};
+use line_forms::Unread;
 use script_lines::{NumberedLine, last_number, lines_of};
 use sig_base::{MOST_LINE, NoMemory};
 use sig_untrack::Body;
@@ -116,6 +118,18 @@ fn answer(
     }
 }
 
+// The body that lines are, or why they are none.
+fn read_all(alloc: Global, lines: &[NumberedLine], allowance: Allowance) -> Result<Body, BodyFault>
+    requires { All (λ l. length l.text.now ≤ MOST_LINE) lines.now }
+    ensures ok { IfOk result (λ b. IsRead allowance (map line_of lines.now) (Ok (before b no_bodies))) }
+    ensures refused { IfErr result (λ f. Refuses allowance (map line_of lines.now) f.at f.why) }
+{
+    match answer(alloc, lines, allowance)? {
+        Ok(body) => Ok(body),
+        Err(fault) => Err(fault),
+    }
+}
+
 /// The body that numbered lines are where this is allowed, none of them passed over and none longer than `MOST_LINE` bytes; `at` of a
 /// fault is a line's number.
 ///
@@ -138,9 +152,10 @@ pub fn read_numbered(
     ensures ok { IfOk result (λ b. IsRead allowance (map line_of lines.now) (Ok (before b no_bodies))) }
     ensures refused { IfErr result (λ f. Refuses allowance (map line_of lines.now) f.at f.why) }
 {
-    match answer(alloc, lines, allowance)? {
-        Ok(body) => Ok(body),
-        Err(fault) => Err(fault),
+    match logging(alloc, lines) {
+        Ok(read) => Ok(read),
+        Err(Unread::NotThere) => read_all(alloc, lines, allowance),
+        Err(Unread::NoMemory(e)) => Err(BodyFault::from(e)),
     }
 }
 
