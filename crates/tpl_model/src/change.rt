@@ -1,5 +1,5 @@
 // What became of what is kept of lines.
-ghost use Rattle.std.specs.Prelude.{◌≡◌, map, IfOk};
+ghost use Rattle.std.specs.Prelude.{◌≡◌, map, true, IfOk};
 ghost use Rattle.tpl_model.specs.KeptLines.Changes as model;
 ghost use Rattle.tpl_model.specs.KeptLines.Changes.{chain, changed};
 
@@ -16,6 +16,36 @@ pub enum Change {
     /// The first line was heard again: whether it is the same, since its names have the outcomes of before, or the rows of a loop their keys, in the same
     /// order; what became of what is kept inside it, in order, and of what is kept behind it.
     Over(bool, Vec<Change>, Box<Change>),
+    /// The first line has nothing inside it and is the same, and so are so many behind it; and what became of the lines behind these.
+    Same(usize, Box<Change>),
+}
+
+// A line with nothing inside it is the same, before lines of which this became.
+#[tactic(auto, using(crate::proofs::ChangeEquations::changed_same, crate::proofs::ChangeEquations::none_before))]
+fn one_same(alloc: Global, later: Change) -> Result<Change, NoMemory>
+    ensures { IfOk result (λ c. changed c ≡ model.over true model.nothing (changed later)) }
+{
+    Ok(Change::Same(0, Box::new(alloc, later)?))
+}
+
+// A line with nothing inside it is the same, before lines of which this became: where these begin with lines like it, it is one more of them.
+#[tactic(auto, using(crate::proofs::ChangeEquations::changed_same, crate::proofs::ChangeEquations::one_before))]
+fn one_more(alloc: Global, later: Change) -> Result<Change, NoMemory>
+    ensures { IfOk result (λ c. changed c ≡ model.over true model.nothing (changed later)) }
+{
+    match later {
+        Change::Same(more, behind) => {
+            if more < usize::MAX {
+                return Ok(Change::Same(more + 1, behind));
+            }
+            let all = one_same(alloc, Change::Same(more, behind))?;
+            Ok(all)
+        }
+        other => {
+            let all = one_same(alloc, other)?;
+            Ok(all)
+        }
+    }
 }
 
 impl Change {
@@ -49,6 +79,10 @@ impl Change {
     ) -> Result<Change, NoMemory>
         ensures { IfOk result (λ c. changed c ≡ model.over same (chain (map changed inside.items)) (changed later)) }
     {
+        if same && inside.is_empty() {
+            let all = one_more(alloc, later)?;
+            return Ok(all);
+        }
         Ok(Change::Over(same, inside, Box::new(alloc, later)?))
     }
 }

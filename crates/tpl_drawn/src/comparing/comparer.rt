@@ -8,7 +8,7 @@ ghost use Rattle.page_model.specs.Labels as label;
 ghost use Rattle.tpl_drawn.specs.Comparison.{restated_in, touched_in};
 ghost use Rattle.tpl_blocks.specs.Blocks.{block, waiting};
 ghost use Rattle.tpl_model.specs.KeptLines.Changes as model;
-ghost use Rattle.tpl_model.specs.KeptLines.Changes.{chain, changed, first_in, is_stays};
+ghost use Rattle.tpl_model.specs.KeptLines.Changes.{chain, changed, first_in, is_stays, same_before};
 ghost use Rattle.tpl_drawn.specs.Marks.{Knows};
 ghost use Rattle.tpl_drawn.specs.Addresses.{number_on};
 ghost use Rattle.tpl_model.specs.KeptLines.Kept.{kept, rows_from};
@@ -39,6 +39,7 @@ fn is_stays(change: &Change) -> bool
         Change::Stays => true,
         Change::Made => false,
         Change::Over(_, _, _) => false,
+        Change::Same(_, _) => false,
     }
 }
 
@@ -372,7 +373,8 @@ fn compare_part(
     }
 }
 
-// Lines of which the first was heard again, and may be as it was heard before.
+// Lines of which the first was heard again, and may be as it was heard before; so many behind it are the same with nothing inside them, and this
+// became of the lines behind these.
 #[cycle(comparing)]
 fn compare_parts(
     alloc: Global,
@@ -382,6 +384,7 @@ fn compare_parts(
     lines: &Block,
     memo: &PageMemo,
     inside: &[Change],
+    more: usize,
     later: &Change,
     page: &PageNodes,
     children: &mut Vec<Child>,
@@ -389,7 +392,7 @@ fn compare_parts(
 ) -> Result<(), NoMemory>
     ensures { (known : ℕ → Option ℕ) → Knows (number_on page.now) known →
         OnOk result (walk_of children.new.items out.new ≡ further (walk_of children.old.items out.old)
-        (as_listed listed (of_lines known (option_copied key.entry) (block lines.now) (kept memo.now) (model.over same (chain (map changed inside.now)) (changed later.now))))) }
+        (as_listed listed (of_lines known (option_copied key.entry) (block lines.now) (kept memo.now) (model.over same (chain (map changed inside.now)) (same_before more (changed later.now)))))) }
 {
     if !fits(lines, memo) {
         return Ok(());
@@ -401,26 +404,76 @@ fn compare_parts(
     match lines {
         Block::Empty => Ok(()),
         Block::Text(_, _, rest) => {
-            compare_lines(alloc, listed, key, rest, behind, later, page, children, out)?;
+            compare_behind(
+                alloc, listed, key, rest, behind, more, later, page, children, out,
+            )?;
             Ok(())
         }
         Block::Tag(_, _, _, _, rest) => {
-            compare_lines(alloc, listed, key, rest, behind, later, page, children, out)?;
+            compare_behind(
+                alloc, listed, key, rest, behind, more, later, page, children, out,
+            )?;
             Ok(())
         }
         Block::Choice(_, _, _, rest) => {
-            compare_lines(alloc, listed, key, rest, behind, later, page, children, out)?;
+            compare_behind(
+                alloc, listed, key, rest, behind, more, later, page, children, out,
+            )?;
             Ok(())
         }
         Block::Each(_, _, rest) => {
-            compare_lines(alloc, listed, key, rest, behind, later, page, children, out)?;
+            compare_behind(
+                alloc, listed, key, rest, behind, more, later, page, children, out,
+            )?;
             Ok(())
         }
         Block::Attempt(_, _, rest) => {
-            compare_lines(alloc, listed, key, rest, behind, later, page, children, out)?;
+            compare_behind(
+                alloc, listed, key, rest, behind, more, later, page, children, out,
+            )?;
             Ok(())
         }
     }
+}
+
+// Lines of which so many are the same with nothing inside them, where this became of the lines behind these.
+#[cycle(comparing)]
+fn compare_behind(
+    alloc: Global,
+    listed: bool,
+    key: Option<&Text>,
+    lines: &Block,
+    memo: &PageMemo,
+    count: usize,
+    later: &Change,
+    page: &PageNodes,
+    children: &mut Vec<Child>,
+    out: &mut Compared,
+) -> Result<(), NoMemory>
+    ensures { (known : ℕ → Option ℕ) → Knows (number_on page.now) known →
+        OnOk result (walk_of children.new.items out.new ≡ further (walk_of children.old.items out.old)
+        (as_listed listed (of_lines known (option_copied key.entry) (block lines.now) (kept memo.now) (same_before count (changed later.now))))) }
+{
+    if count == 0 {
+        compare_lines(alloc, listed, key, lines, memo, later, page, children, out)?;
+        return Ok(());
+    }
+    let more = count - 1;
+    compare_parts(
+        alloc,
+        listed,
+        true,
+        key,
+        lines,
+        memo,
+        &[],
+        more,
+        later,
+        page,
+        children,
+        out,
+    )?;
+    Ok(())
 }
 
 // Lines in the row of this key: of those that stay the topmost nodes are children, those that were made anew are marked all, and of the others
@@ -452,7 +505,24 @@ fn compare_lines(
         }
         Change::Over(same, inside, later) => {
             compare_parts(
-                alloc, listed, *same, key, lines, memo, inside, later, page, children, out,
+                alloc, listed, *same, key, lines, memo, inside, 0, later, page, children, out,
+            )?;
+            Ok(())
+        }
+        Change::Same(more, later) => {
+            compare_parts(
+                alloc,
+                listed,
+                true,
+                key,
+                lines,
+                memo,
+                &[],
+                *more,
+                later,
+                page,
+                children,
+                out,
             )?;
             Ok(())
         }

@@ -3,25 +3,37 @@ ghost use Rattle.std.specs.Prelude.{◌≡◌, map};
 ghost use Rattle.tpl_blocks.specs.Blocks.{block};
 ghost use Rattle.tpl_drawn.specs.Comparison.{keeps_nodes};
 ghost use Rattle.tpl_model.specs.KeptLines.Changes as model;
-ghost use Rattle.tpl_model.specs.KeptLines.Changes.{chain, changed, first_in, over};
+ghost use Rattle.tpl_model.specs.KeptLines.Changes.{chain, changed, first_in, over, same_before};
 
 use crate::comparing::children::is_plain;
 use tpl_blocks::Block;
 use tpl_model::Change;
 
-// Whether lines of which the first was heard again keep their topmost nodes.
+// Whether lines of which the first was heard again keep their topmost nodes, where so many behind it are the same with nothing inside them, and this
+// became of the lines behind these.
 #[cycle(keeping)]
-fn keeps_parts(lines: &Block, same: bool, later: &Change) -> bool
-    ensures { (inside : model.Change) → result ≡ keeps_nodes (block lines.now) (over same inside (changed later.now)) }
+fn keeps_parts(lines: &Block, same: bool, more: usize, later: &Change) -> bool
+    ensures { (inside : model.Change) → result ≡ keeps_nodes (block lines.now) (over same inside (same_before more (changed later.now))) }
 {
     match lines {
         Block::Empty => true,
-        Block::Text(_, _, rest) => keeps_nodes(rest, later),
-        Block::Tag(_, _, _, _, rest) => keeps_nodes(rest, later),
+        Block::Text(_, _, rest) => keeps_behind(rest, more, later),
+        Block::Tag(_, _, _, _, rest) => keeps_behind(rest, more, later),
         Block::Choice(_, _, _, _) => false,
-        Block::Each(_, inner, rest) => same && is_plain(inner) && keeps_nodes(rest, later),
-        Block::Attempt(_, _, rest) => same && keeps_nodes(rest, later),
+        Block::Each(_, inner, rest) => same && is_plain(inner) && keeps_behind(rest, more, later),
+        Block::Attempt(_, _, rest) => same && keeps_behind(rest, more, later),
     }
+}
+
+// Whether lines keep their topmost nodes of which so many are the same with nothing inside them, where this became of the lines behind these.
+#[cycle(keeping)]
+fn keeps_behind(lines: &Block, count: usize, later: &Change) -> bool
+    ensures { result ≡ keeps_nodes (block lines.now) (same_before count (changed later.now)) }
+{
+    if count == 0 {
+        return keeps_nodes(lines, later);
+    }
+    keeps_parts(lines, true, count - 1, later)
 }
 
 /// Whether lines keep their topmost nodes, where this became of them.
@@ -32,7 +44,8 @@ pub fn keeps_nodes(lines: &Block, change: &Change) -> bool
     match change {
         Change::Stays => true,
         Change::Made => is_plain(lines),
-        Change::Over(same, _, later) => keeps_parts(lines, *same, later),
+        Change::Over(same, _, later) => keeps_parts(lines, *same, 0, later),
+        Change::Same(more, later) => keeps_parts(lines, true, *more, later),
     }
 }
 

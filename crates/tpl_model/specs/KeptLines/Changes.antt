@@ -1,5 +1,5 @@
 -- What became of what is kept of lines, when it was brought up to date, and what this tells of the outcomes of before.
-use Rattle.std.specs.Prelude.{◌≡◌, ◌<◌, ℕ, Bool, true, false, List, [], ◌∷◌, length, map, Option, Some, None}
+use Rattle.std.specs.Prelude.{◌≡◌, ◌<◌, ℕ, zero, suc, Bool, true, false, List, [], ◌∷◌, length, map, Option, Some, None}
 use Rattle.std.specs.Box.{box_value}
 use Rattle.sig_base.specs.declared.rows.Row.{Row}
 use Rattle.sig_base.specs.declared.value.Outcome.{Outcome}
@@ -31,11 +31,17 @@ abbrev pub chain : List Change → Change
 chain [] = nothing
 chain (c ∷ cs) = also c (chain cs)
 
+-- so many lines with nothing inside them are the same, and this became of the lines behind them
+unfoldable pub same_before : ℕ → Change → Change
+same_before zero c = c
+same_before (suc n) c = over true nothing (same_before n c)
+
 -- one change, over what became of its parts
 abbrev pub changed_node : Change-F Change → Change
 changed_node Change-F.Stays = stays
 changed_node Change-F.Made = made
 changed_node (Change-F.Over same inside later) = over same (chain inside.items) (box_value later)
+changed_node (Change-F.Same more later) = over true nothing (same_before more (box_value later))
 
 -- a change as the code has it
 unfoldable pub changed : code.Change → Change

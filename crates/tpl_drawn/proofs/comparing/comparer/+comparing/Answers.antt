@@ -1,12 +1,13 @@
 use Rattle.std.proofs.Common.{◌≡◌, ◌<◌, ◌+◌, ◌++◌, [], ◌∷◌, Some, true, false, not, length, map, drop, arith, refl, sym, ap, ◌∙◌, inl, inr}
 use Rattle.std.proofs.lemmas.Bool.Decides.{nat_tests}
 use Rattle.std.proofs.lemmas.List.{map-append}
+use Rattle.std.specs.Box.{box_value}
 use Rattle.std.specs.Option.{option_copied}
 use Rattle.page_model.specs.Addresses.{address}
 use Rattle.page_model.specs.Labels.{Element}
 use Rattle.tpl_blocks.specs.Blocks.{block, waiting}
-use Rattle.tpl_model.specs.KeptLines.Changes.{chain, changed, first_in, over}
-use Rattle.tpl_model.proofs.ChangeEquations.{changed_made, changed_over, changed_stays}
+use Rattle.tpl_model.specs.KeptLines.Changes.{chain, changed, first_in, over, same_before}
+use Rattle.tpl_model.proofs.ChangeEquations.{changed_made, changed_over, changed_same, changed_stays, none_before, one_less}
 use Rattle.tpl_drawn.specs.Addresses.{number_on}
 use Rattle.tpl_model.specs.KeptLines.Kept.{heard_of, kept}
 use Rattle.tpl_drawn.specs.Heads.{table_of}
@@ -249,53 +250,69 @@ compare_part-returns-in_ok-put_part-in-Attempt-2 u c = λ fit known k.
 pub compare_parts-returns-then-not-fits : goal.compare_parts-returns-then-not-fits
 compare_parts-returns-then-not-fits u c = λ known k.
     none_listed c.args.listed _ _
-    (unfit_gone known (option_copied c.args.key) (block c.args.lines.now) (kept c.args.memo.now) (over c.args.same (chain (map changed c.args.inside.now)) (changed c.args.later.now))
+    (unfit_gone known (option_copied c.args.key) (block c.args.lines.now) (kept c.args.memo.now) (over c.args.same (chain (map changed c.args.inside.now)) (same_before c.args.more (changed c.args.later.now)))
     (sym c.fits.ensures ∙ c.if-not-fits.true))
 
-pub compare_parts-returns-in_ok-compare_lines-in-Text : goal.compare_parts-returns-in_ok-compare_lines-in-Text
-compare_parts-returns-in_ok-compare_lines-in-Text u c = λ known k.
+pub compare_parts-returns-in_ok-compare_behind-in-Text : goal.compare_parts-returns-in_ok-compare_behind-in-Text
+compare_parts-returns-in_ok-compare_behind-in-Text u c = λ known k.
     let fit = sym c.fits.ensures ∙ c.if-not-fits.false in
     first_gone c.args.listed known (option_copied c.args.key) c.args.same (block c.args.lines.now) (block c.in-Text.rest.value) (kept c.args.memo.now)
-    (chain (map changed c.args.inside.now)) (changed c.args.later.now) (walk_of c.args.children.now.items c.args.out.now)
-    (walk_of c.compare_part.new.children.items c.compare_part.new.out) (walk_of c.compare_lines.new.children.items c.compare_lines.new.out)
+    (chain (map changed c.args.inside.now)) (same_before c.args.more (changed c.args.later.now)) (walk_of c.args.children.now.items c.args.out.now)
+    (walk_of c.compare_part.new.children.items c.compare_part.new.out) (walk_of c.compare_behind.new.children.items c.compare_behind.new.out)
     fit (sym (ap (λ z. behind (block z)) c.in-Text.is)) (c.in_ok-compare_part.ensures fit known k)
-    (rw (c.deref.ensures, c.later_of-behind.ensures) at (c.in_ok-compare_lines-in-Text.ensures known k))
+    (rw (c.deref.ensures, c.later_of-behind.ensures) at (c.in_ok-compare_behind-in-Text.ensures known k))
 
-pub compare_parts-returns-in_ok-compare_lines-in-Tag : goal.compare_parts-returns-in_ok-compare_lines-in-Tag
-compare_parts-returns-in_ok-compare_lines-in-Tag u c = λ known k.
+pub compare_parts-returns-in_ok-compare_behind-in-Tag : goal.compare_parts-returns-in_ok-compare_behind-in-Tag
+compare_parts-returns-in_ok-compare_behind-in-Tag u c = λ known k.
     let fit = sym c.fits.ensures ∙ c.if-not-fits.false in
     first_gone c.args.listed known (option_copied c.args.key) c.args.same (block c.args.lines.now) (block c.in-Tag.rest.value) (kept c.args.memo.now)
-    (chain (map changed c.args.inside.now)) (changed c.args.later.now) (walk_of c.args.children.now.items c.args.out.now)
-    (walk_of c.compare_part.new.children.items c.compare_part.new.out) (walk_of c.compare_lines-in-Tag.new.children.items c.compare_lines-in-Tag.new.out)
+    (chain (map changed c.args.inside.now)) (same_before c.args.more (changed c.args.later.now)) (walk_of c.args.children.now.items c.args.out.now)
+    (walk_of c.compare_part.new.children.items c.compare_part.new.out) (walk_of c.compare_behind-in-Tag.new.children.items c.compare_behind-in-Tag.new.out)
     fit (sym (ap (λ z. behind (block z)) c.in-Tag.is)) (c.in_ok-compare_part.ensures fit known k)
-    (rw (c.deref-in-Tag.ensures, c.later_of-behind.ensures) at (c.in_ok-compare_lines-in-Tag.ensures known k))
+    (rw (c.deref-in-Tag.ensures, c.later_of-behind.ensures) at (c.in_ok-compare_behind-in-Tag.ensures known k))
 
-pub compare_parts-returns-in_ok-compare_lines-in-Choice : goal.compare_parts-returns-in_ok-compare_lines-in-Choice
-compare_parts-returns-in_ok-compare_lines-in-Choice u c = λ known k.
+pub compare_parts-returns-in_ok-compare_behind-in-Choice : goal.compare_parts-returns-in_ok-compare_behind-in-Choice
+compare_parts-returns-in_ok-compare_behind-in-Choice u c = λ known k.
     let fit = sym c.fits.ensures ∙ c.if-not-fits.false in
     first_gone c.args.listed known (option_copied c.args.key) c.args.same (block c.args.lines.now) (block c.in-Choice.rest.value) (kept c.args.memo.now)
-    (chain (map changed c.args.inside.now)) (changed c.args.later.now) (walk_of c.args.children.now.items c.args.out.now)
-    (walk_of c.compare_part.new.children.items c.compare_part.new.out) (walk_of c.compare_lines-in-Choice.new.children.items c.compare_lines-in-Choice.new.out)
+    (chain (map changed c.args.inside.now)) (same_before c.args.more (changed c.args.later.now)) (walk_of c.args.children.now.items c.args.out.now)
+    (walk_of c.compare_part.new.children.items c.compare_part.new.out) (walk_of c.compare_behind-in-Choice.new.children.items c.compare_behind-in-Choice.new.out)
     fit (sym (ap (λ z. behind (block z)) c.in-Choice.is)) (c.in_ok-compare_part.ensures fit known k)
-    (rw (c.deref-in-Choice.ensures, c.later_of-behind.ensures) at (c.in_ok-compare_lines-in-Choice.ensures known k))
+    (rw (c.deref-in-Choice.ensures, c.later_of-behind.ensures) at (c.in_ok-compare_behind-in-Choice.ensures known k))
 
-pub compare_parts-returns-in_ok-compare_lines-in-Each : goal.compare_parts-returns-in_ok-compare_lines-in-Each
-compare_parts-returns-in_ok-compare_lines-in-Each u c = λ known k.
+pub compare_parts-returns-in_ok-compare_behind-in-Each : goal.compare_parts-returns-in_ok-compare_behind-in-Each
+compare_parts-returns-in_ok-compare_behind-in-Each u c = λ known k.
     let fit = sym c.fits.ensures ∙ c.if-not-fits.false in
     first_gone c.args.listed known (option_copied c.args.key) c.args.same (block c.args.lines.now) (block c.in-Each.rest.value) (kept c.args.memo.now)
-    (chain (map changed c.args.inside.now)) (changed c.args.later.now) (walk_of c.args.children.now.items c.args.out.now)
-    (walk_of c.compare_part.new.children.items c.compare_part.new.out) (walk_of c.compare_lines-in-Each.new.children.items c.compare_lines-in-Each.new.out)
+    (chain (map changed c.args.inside.now)) (same_before c.args.more (changed c.args.later.now)) (walk_of c.args.children.now.items c.args.out.now)
+    (walk_of c.compare_part.new.children.items c.compare_part.new.out) (walk_of c.compare_behind-in-Each.new.children.items c.compare_behind-in-Each.new.out)
     fit (sym (ap (λ z. behind (block z)) c.in-Each.is)) (c.in_ok-compare_part.ensures fit known k)
-    (rw (c.deref-in-Each.ensures, c.later_of-behind.ensures) at (c.in_ok-compare_lines-in-Each.ensures known k))
+    (rw (c.deref-in-Each.ensures, c.later_of-behind.ensures) at (c.in_ok-compare_behind-in-Each.ensures known k))
 
-pub compare_parts-returns-in_ok-compare_lines-in-Attempt : goal.compare_parts-returns-in_ok-compare_lines-in-Attempt
-compare_parts-returns-in_ok-compare_lines-in-Attempt u c = λ known k.
+pub compare_parts-returns-in_ok-compare_behind-in-Attempt : goal.compare_parts-returns-in_ok-compare_behind-in-Attempt
+compare_parts-returns-in_ok-compare_behind-in-Attempt u c = λ known k.
     let fit = sym c.fits.ensures ∙ c.if-not-fits.false in
     first_gone c.args.listed known (option_copied c.args.key) c.args.same (block c.args.lines.now) (block c.in-Attempt.rest.value) (kept c.args.memo.now)
-    (chain (map changed c.args.inside.now)) (changed c.args.later.now) (walk_of c.args.children.now.items c.args.out.now)
-    (walk_of c.compare_part.new.children.items c.compare_part.new.out) (walk_of c.compare_lines-in-Attempt.new.children.items c.compare_lines-in-Attempt.new.out)
+    (chain (map changed c.args.inside.now)) (same_before c.args.more (changed c.args.later.now)) (walk_of c.args.children.now.items c.args.out.now)
+    (walk_of c.compare_part.new.children.items c.compare_part.new.out) (walk_of c.compare_behind-in-Attempt.new.children.items c.compare_behind-in-Attempt.new.out)
     fit (sym (ap (λ z. behind (block z)) c.in-Attempt.is)) (c.in_ok-compare_part.ensures fit known k)
-    (rw (c.deref-in-Attempt.ensures, c.later_of-behind.ensures) at (c.in_ok-compare_lines-in-Attempt.ensures known k))
+    (rw (c.deref-in-Attempt.ensures, c.later_of-behind.ensures) at (c.in_ok-compare_behind-in-Attempt.ensures known k))
+
+pub compare_behind-returns-then-count-eq0 : goal.compare_behind-returns-then-count-eq0
+compare_behind-returns-then-count-eq0 u c = λ known k.
+    let none : c.args.count ≡ 0 = grind (arith, nat_tests, c.if-count-eq0.true) in
+    c.in_ok-compare_lines.ensures known k
+    ∙ ap (λ z. further (walk_of c.args.children.now.items c.args.out.now)
+    (as_listed c.args.listed (of_lines known (option_copied c.args.key) (block c.args.lines.now) (kept c.args.memo.now) z)))
+    (sym (ap (λ z. same_before z (changed c.args.later.now)) none ∙ none_before (changed c.args.later.now)))
+
+pub compare_behind-returns : goal.compare_behind-returns
+compare_behind-returns u c = λ known k.
+    let some : 0 < c.args.count = grind (arith, nat_tests, c.if-count-eq0.false) in
+    c.in_ok-compare_parts.ensures known k
+    ∙ ap (λ z. further (walk_of c.args.children.now.items c.args.out.now)
+    (as_listed c.args.listed (of_lines known (option_copied c.args.key) (block c.args.lines.now) (kept c.args.memo.now) z)))
+    (one_less c.args.count (changed c.args.later.now) some)
 
 -- ---- lines
 
@@ -320,4 +337,12 @@ compare_lines-returns-in_ok-compare_parts-in-Over u c = λ known k.
     rw (c.deref.ensures.value, c.deref-in-Over.ensures) at (c.in_ok-compare_parts-in-Over.ensures known k)
     ∙ ap (λ z. further (walk_of c.args.children.now.items c.args.out.now)
     (as_listed c.args.listed (of_lines known (option_copied c.args.key) (block c.args.lines.now) (kept c.args.memo.now) z)))
-    (sym (ap changed c.in-Over.is ∙ changed_over c.in-Over.same c.in-Over.inside c.in-Over.later))
+    (ap (over c.in-Over.same (chain (map changed c.in-Over.inside.items))) (none_before (changed (box_value c.in-Over.later)))
+    ∙ sym (ap changed c.in-Over.is ∙ changed_over c.in-Over.same c.in-Over.inside c.in-Over.later))
+
+pub compare_lines-returns-in_ok-compare_parts-in-Same : goal.compare_lines-returns-in_ok-compare_parts-in-Same
+compare_lines-returns-in_ok-compare_parts-in-Same u c = λ known k.
+    rw c.deref-in-Same.ensures at (c.in_ok-compare_parts-in-Same.ensures known k)
+    ∙ ap (λ z. further (walk_of c.args.children.now.items c.args.out.now)
+    (as_listed c.args.listed (of_lines known (option_copied c.args.key) (block c.args.lines.now) (kept c.args.memo.now) z)))
+    (sym (ap changed c.in-Same.is ∙ changed_same c.in-Same.more c.in-Same.later))
