@@ -3,6 +3,7 @@ pub mod Rows
 pub mod Siblings
 pub mod Tops
 pub mod Walks
+pub mod Passing
 pub mod Said
 pub mod Comparison
 pub mod Coverage

@@ -5,6 +5,7 @@ mod keeping;
 mod kept;
 mod laws;
 mod node_marks;
+mod passing;
 mod texts;
 
 pub use comparer::compared;

@@ -161,7 +161,7 @@ made_gone known k b m = λ i. record {
 -- ---- the first line, and those behind it
 
 -- a mark with none below it
-unless_alone : (s : Bool) (n : Option ℕ) (x : Look) → marked_unless s n x [] [] ≡ (if s then [] else marked_at n x [] [])
+pub unless_alone : (s : Bool) (n : Option ℕ) (x : Look) → marked_unless s n x [] [] ≡ (if s then [] else marked_at n x [] [])
 unless_alone true None x = refl
 unless_alone true (Some n) x = refl
 unless_alone false None x = refl

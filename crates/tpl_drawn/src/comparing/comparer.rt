@@ -22,6 +22,7 @@ use crate::comparing::children::room_for;
 use crate::comparing::keeping::{first_keeps, keeps_nodes};
 use crate::comparing::kept::{put_if_listed, put_kept};
 use crate::comparing::node_marks::{Compared, put_made, put_part, put_text_again};
+use crate::comparing::passing::past_same;
 use crate::marks::PageNodes;
 use crate::nodes::{attributes_of, fits, inside_of, later_of, loop_of, shows};
 use crate::shown::put_attributes;
@@ -548,13 +549,14 @@ fn all_compared(
     };
     let keeps = keeps_nodes(lines, change);
     let mut children = room_for(alloc, !keeps, &page.tree, 0)?;
+    let (behind, left, told) = past_same(!keeps, lines, memo, change);
     compare_lines(
         alloc,
         !keeps,
         None,
-        lines,
-        memo,
-        change,
+        behind,
+        left,
+        told,
         page,
         &mut children,
         &mut out,
