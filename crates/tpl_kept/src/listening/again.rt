@@ -26,6 +26,7 @@ use tpl_model::Heard;
 /// # Errors
 ///
 /// `NoMemory` alone; names may then have been settled.
+#[inline(never)]
 pub(crate) fn listen_here(
     alloc: Global,
     graph: &mut Graph,

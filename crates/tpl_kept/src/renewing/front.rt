@@ -6,10 +6,12 @@ ghost use Rattle.tpl_blocks.specs.Blocks.{block};
 ghost use Rattle.tpl_hearing.specs.Heard.{scene, CanSettle, Hears};
 ghost use Rattle.tpl_hearing.specs.HeardAgain.{AreCompared};
 ghost use Rattle.tpl_model.specs.KeptLines.Kept.{heard_of, kept};
-ghost use Rattle.tpl_model.specs.KeptLines.Memos.{lines_memo, Listens, Makes};
-ghost use Rattle.tpl_model.specs.KeptLines.Before.{WasListened, WasMade};
+ghost use Rattle.tpl_model.specs.KeptLines.Memos.{lines_memo, Listens, ListensAll, Makes};
+ghost use Rattle.tpl_model.specs.KeptLines.Before.{WasListened, WasListenedAll, WasMade};
 ghost use Rattle.tpl_model.specs.KeptLines.Changes.{changed, Tells};
-ghost use Rattle.tpl_kept.specs.Renewals.{WasMadeIfRead};
+ghost use Rattle.tpl_model.specs.PageUpdates.PageMemos.{names};
+ghost use Rattle.tpl_kept.specs.Heads.{attributes_in};
+ghost use Rattle.tpl_kept.specs.Renewals.{AreLooked, WasMadeIfRead};
 
 use crate::listening::{listen_all_here, listen_here};
 use crate::making::{attributes_of, formula_of, inner_of, rest_of};
@@ -65,6 +67,70 @@ fn hear_text(
     Ok(same)
 }
 
+// Hears the attributes of an element again, where what was heard of them is kept. Its clauses are those of a formula that is heard again.
+#[inline(never)]
+fn hear_element(
+    alloc: Global,
+    graph: &mut Graph,
+    shelf: &mut Shelf,
+    before: &Outcomes,
+    hearing: &mut Rehearing,
+    lines: &Block,
+    all: &mut Vec<Heard>,
+    links: &[NodeId],
+    row: Option<&RowRef>,
+    notes: &mut Vec<RunNote>,
+) -> Result<bool, NoMemory>
+    requires place { IfSome row (λ r. r.now.place < length r.now.rows.rows) }
+    requires can { CanSettle (scene graph.old (⟦<Shelf as Lent>⟧.asked shelf.old) notes.old.items) }
+    requires counted { ⟦<Shelf as Lent>⟧.counted shelf.old }
+    requires compared { AreCompared before.now hearing.old }
+    requires was { WasListenedAll (attributes_in (block lines.now)) links.now (option_copied row) before.now (map heard_of all.old.items) }
+    ensures heard { OnOk result (ListensAll (attributes_in (block lines.now)) links.now (option_copied row.entry) hearing.old.heard hearing.new.heard
+        (map heard_of all.new.items)) }
+    ensures same { IfOk result (λ s. s ≡ true → WasListenedAll (attributes_in (block lines.now)) links.now (option_copied row.entry) before.now
+        (map heard_of all.new.items)) }
+    ensures after { OnOk result (Hears
+        (scene graph.old (⟦<Shelf as Lent>⟧.asked shelf.old) notes.old.items) (scene graph.new (⟦<Shelf as Lent>⟧.asked shelf.new) notes.new.items)
+        (λ hosts. ⟦<Shelf as Lent>⟧.answers hosts shelf.old) (λ hosts. ⟦<Shelf as Lent>⟧.answers hosts shelf.new) hearing.old.heard hearing.new.heard) }
+    ensures can { OnOk result (CanSettle (scene graph.new (⟦<Shelf as Lent>⟧.asked shelf.new) notes.new.items)) }
+    ensures counted { OnOk result (⟦<Shelf as Lent>⟧.counted shelf.new) }
+    ensures compared { OnOk result (AreCompared before.now hearing.new) }
+{
+    let attributes = attributes_of(lines);
+    let same = listen_all_here(
+        alloc, graph, shelf, before, hearing, attributes, all, links, row, notes,
+    )?;
+    Ok(same)
+}
+
+// Whether all names of lines are as before, where what is known of them asks for a look. Its clauses are those of looking at names.
+fn stays_here(
+    alloc: Global,
+    graph: &mut Graph,
+    shelf: &mut Shelf,
+    before: &Outcomes,
+    hearing: &mut Rehearing,
+    memo: &PageMemo,
+    look: Look,
+    notes: &mut Vec<RunNote>,
+) -> Result<bool, NoMemory>
+    requires can { CanSettle (scene graph.old (⟦<Shelf as Lent>⟧.asked shelf.old) notes.old.items) }
+    requires counted { ⟦<Shelf as Lent>⟧.counted shelf.old }
+    requires compared { AreCompared before.now hearing.old }
+    ensures looked { IfOk result (λ same. AreLooked same before.now (names (kept memo.now)) hearing.old.heard hearing.new.heard) }
+    ensures after { OnOk result (Hears
+        (scene graph.old (⟦<Shelf as Lent>⟧.asked shelf.old) notes.old.items) (scene graph.new (⟦<Shelf as Lent>⟧.asked shelf.new) notes.new.items)
+        (λ hosts. ⟦<Shelf as Lent>⟧.answers hosts shelf.old) (λ hosts. ⟦<Shelf as Lent>⟧.answers hosts shelf.new) hearing.old.heard hearing.new.heard) }
+    ensures can { OnOk result (CanSettle (scene graph.new (⟦<Shelf as Lent>⟧.asked shelf.new) notes.new.items)) }
+    ensures counted { OnOk result (⟦<Shelf as Lent>⟧.counted shelf.new) }
+    ensures compared { OnOk result (AreCompared before.now hearing.new) }
+{
+    let first = looks_first(look, memo);
+    let same = stays(alloc, graph, shelf, before, hearing, memo, first, notes)?;
+    Ok(same)
+}
+
 // What became of one part.
 fn part(alloc: Global, change: Change) -> Result<Vec<Change>, NoMemory>
     ensures { IfOk result (λ cs. map changed cs.items ≡ changed change ∷ []) }
@@ -75,6 +141,7 @@ fn part(alloc: Global, change: Change) -> Result<Vec<Change>, NoMemory>
 }
 
 // Brings what is kept of lines that are no text and no element first up to date, where it is kept. Its clauses are those of renewing.
+#[inline(never)]
 fn renew_other(
     alloc: Global,
     graph: &mut Graph,
@@ -142,8 +209,7 @@ fn renew_here(
     ensures counted { OnOk result (⟦<Shelf as Lent>⟧.counted shelf.new) }
     ensures compared { OnOk result (AreCompared before.now hearing.new) }
 {
-    let first = looks_first(look, memo);
-    if stays(alloc, graph, shelf, before, hearing, memo, first, notes)? {
+    if stays_here(alloc, graph, shelf, before, hearing, memo, look, notes)? {
         return Ok(Change::stays());
     }
     let rest = rest_of(lines);
@@ -158,34 +224,27 @@ fn renew_here(
             let behind = renew_here(
                 alloc, graph, shelf, before, hearing, rest, next, later, after, links, row, notes,
             )?;
-            let all = Change::over(alloc, heard, Vec::new(alloc), behind)?;
-            Ok(all)
+            Ok(Change::over(alloc, heard, Vec::new(alloc), behind)?)
         }
-        PageMemo::Element(all, inside, later) => {
-            let attributes = attributes_of(lines);
-            let heard = listen_all_here(
-                alloc, graph, shelf, before, hearing, attributes, all, links, row, notes,
+        PageMemo::Element(all, held, later) => {
+            let heard = hear_element(
+                alloc, graph, shelf, before, hearing, lines, all, links, row, notes,
             )?;
             let inner = inner_of(lines, false);
             let within = look_within(look, heard, later);
             let told = renew_here(
-                alloc, graph, shelf, before, hearing, inner, near, inside, within, links, row,
-                notes,
+                alloc, graph, shelf, before, hearing, inner, near, held, within, links, row, notes,
             )?;
             let told = part(alloc, told)?;
             let after = look_behind(look, heard, &told);
             let behind = renew_here(
                 alloc, graph, shelf, before, hearing, rest, near, later, after, links, row, notes,
             )?;
-            let all = Change::over(alloc, heard, told, behind)?;
-            Ok(all)
+            Ok(Change::over(alloc, heard, told, behind)?)
         }
-        _ => {
-            let change = renew_other(
-                alloc, graph, shelf, before, hearing, lines, memo, look, links, row, notes,
-            )?;
-            Ok(change)
-        }
+        _ => Ok(renew_other(
+            alloc, graph, shelf, before, hearing, lines, memo, look, links, row, notes,
+        )?),
     }
 }
 
