@@ -5,5 +5,6 @@ mod links;
 mod marks;
 mod presence;
 mod propagation;
+mod readers;
 
 pub use marks::Marks;

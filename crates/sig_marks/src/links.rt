@@ -1,57 +1,29 @@
 // Readers in the sets of dependants of what they keep.
 ghost use Rattle.std.specs.Prelude.{◌≡◌, ℕ, ◌+◌, ◌<◌, ◌≤◌, ◌^◌, ◌==◌, ◌⊎◌, [], ◌∷◌, length, true, false, if◌then◌else◌, slice_get, slice_set, IfSome, OnOk, OnErr};
 ghost use Rattle.std.specs.List.{All};
-ghost use Rattle.indexmap.specs.IndexSet.{spare};
 ghost use Rattle.signal_model.specs.Laws.{AreDistinct};
 ghost use Rattle.signal_model.specs.Signals.{is_in};
 ghost use Rattle.sig_marks.specs.Tables.{Drops, Relinks};
-ghost use Rattle.sig_marks.specs.Sets.{HasRoom, Links, Makes, Unlinks, depends_in, keys_of, spare_at, stands_of};
+ghost use Rattle.sig_marks.specs.Sets.{HasRoom, Links, Makes, Unlinks, depends_in, keys_held, keys_of, spare_at, stands_of};
 
 use crate::presence::stands_in;
-use indexmap::IndexSet;
+use crate::readers::Readers;
 use sig_base::{NoMemory, NodeId};
 use sig_store::Store;
+use std::alloc::Global;
 
-// A reader's end, which takes no memory.
-fn unlink_one(set: &mut IndexSet<u128>, reader: u128)
-    ensures off { (d : ℕ) → is_in d set.new.keys ≡ (if reader == d then false else is_in d set.old.keys) }
-    ensures room { spare set.old ≤ spare set.new }
-{
-    set.swap_remove(&reader);
-}
-
-// A reader more, in room that is there.
-fn link_one(set: &mut IndexSet<u128>, reader: u128)
-    requires room { (is_in reader set.old.keys ≡ true) ⊎ (0 < spare set.old) }
-    ensures on { (d : ℕ) → is_in d set.new.keys ≡ (if reader == d then true else is_in d set.old.keys) }
-{
-    match set.insert(reader) {
-        Ok(_) => {}
-        Err(_) => unreachable!(),
-    }
-}
-
-// Room for a reader more.
-fn reserve_one(set: &mut IndexSet<u128>) -> Result<(), NoMemory>
-    ensures ok { OnOk result (0 < spare set.new) }
-    ensures keys { set.new.keys ≡ set.old.keys }
-    ensures room { spare set.old ≤ spare set.new }
-{
-    set.reserve(1)?;
-    Ok(())
-}
-
-fn unlink_at(sets: &mut Store<IndexSet<u128>>, from: NodeId, reader: u128)
+fn unlink_at(sets: &mut Store<Readers>, from: NodeId, reader: u128)
     ensures { Unlinks sets.old.entries sets.new.entries (from ∷ []) reader }
 {
     let id = from.number();
     if !stands_in(sets, id) {
         return;
     }
-    unlink_one(sets.value_mut(id), reader);
+    let readers = sets.value_mut(id);
+    readers.remove(reader);
 }
 
-fn link_at(sets: &mut Store<IndexSet<u128>>, to: NodeId, reader: u128)
+fn link_at(sets: &mut Store<Readers>, to: NodeId, reader: u128)
     requires { HasRoom sets.old.entries reader to }
     ensures on { Links sets.old.entries sets.new.entries (to ∷ []) reader }
     ensures room { (m : ℕ) → HasRoom sets.old.entries reader m → HasRoom sets.new.entries reader m }
@@ -60,22 +32,29 @@ fn link_at(sets: &mut Store<IndexSet<u128>>, to: NodeId, reader: u128)
     if !stands_in(sets, id) {
         return;
     }
-    link_one(sets.value_mut(id), reader);
+    let readers = sets.value_mut(id);
+    readers.insert(reader);
 }
 
-fn reserve_at(sets: &mut Store<IndexSet<u128>>, to: NodeId) -> Result<(), NoMemory>
-    ensures ok { OnOk result (0 < spare_at sets.new.entries to) }
-    ensures makes { Makes sets.old.entries sets.new.entries }
+fn reserve_at(
+    sets: &mut Store<Readers>,
+    alloc: Global,
+    to: NodeId,
+    reader: u128,
+) -> Result<(), NoMemory>
+    ensures ok { OnOk result (0 < spare_at sets.new.entries reader to) }
+    ensures makes { Makes sets.old.entries sets.new.entries reader }
 {
     let id = to.number();
     if !stands_in(sets, id) {
         return Ok(());
     }
-    reserve_one(sets.value_mut(id))
+    let readers = sets.value_mut(id);
+    readers.reserve(alloc, reader)
 }
 
 // Takes a reader out of the dependants of all these sources.
-fn unlink_all(sets: &mut Store<IndexSet<u128>>, sources: &[NodeId], reader: u128)
+fn unlink_all(sets: &mut Store<Readers>, sources: &[NodeId], reader: u128)
     ensures { Unlinks sets.old.entries sets.new.entries sources.now reader }
 {
     for source in sources {
@@ -84,8 +63,8 @@ fn unlink_all(sets: &mut Store<IndexSet<u128>>, sources: &[NodeId], reader: u128
 }
 
 // Puts a reader among the dependants of all of these that stand, in room that is there.
-fn link_all(sets: &mut Store<IndexSet<u128>>, reads: &[NodeId], reader: u128)
-    requires { All (λ n. 0 < spare_at sets.old.entries n) reads.now }
+fn link_all(sets: &mut Store<Readers>, reads: &[NodeId], reader: u128)
+    requires { All (λ n. 0 < spare_at sets.old.entries reader n) reads.now }
     ensures { Links sets.old.entries sets.new.entries reads.now reader }
 {
     for read in reads {
@@ -93,20 +72,26 @@ fn link_all(sets: &mut Store<IndexSet<u128>>, reads: &[NodeId], reader: u128)
     }
 }
 
-// Makes room for a reader more in each of these. What there is stays, after an `Err` too.
-fn reserve_all(sets: &mut Store<IndexSet<u128>>, reads: &[NodeId]) -> Result<(), NoMemory>
-    ensures ok { OnOk result (All (λ n. 0 < spare_at sets.new.entries n) reads.now) }
-    ensures makes { Makes sets.old.entries sets.new.entries }
+// Makes room for a reader in each of these. What there is stays, after an `Err` too.
+fn reserve_all(
+    sets: &mut Store<Readers>,
+    alloc: Global,
+    reads: &[NodeId],
+    reader: u128,
+) -> Result<(), NoMemory>
+    ensures ok { OnOk result (All (λ n. 0 < spare_at sets.new.entries reader n) reads.now) }
+    ensures makes { Makes sets.old.entries sets.new.entries reader }
 {
     for read in reads {
-        reserve_at(sets, *read)?;
+        reserve_at(sets, alloc, *read, reader)?;
     }
     Ok(())
 }
 
 /// Gives a reader these sources in place of the earlier ones. After an `Err` only room was made.
 pub(crate) fn relink(
-    sets: &mut Store<IndexSet<u128>>,
+    sets: &mut Store<Readers>,
+    alloc: Global,
     sources: &[NodeId],
     reads: &[NodeId],
     reader: u128,
@@ -116,16 +101,16 @@ pub(crate) fn relink(
     ensures stands { stands_of sets.new.entries ≡ stands_of sets.old.entries }
     ensures err { OnErr result (keys_of sets.new.entries ≡ keys_of sets.old.entries) }
 {
-    reserve_all(sets, reads)?;
+    reserve_all(sets, alloc, reads, reader)?;
     unlink_all(sets, sources, reader);
     link_all(sets, reads, reader);
     Ok(())
 }
 
 /// The reader at a place of a set, none past the last one. It takes no memory.
-pub(crate) fn reader_at(set: &IndexSet<u128>, place: usize) -> Option<NodeId>
-    ensures at { result ≡ slice_get set.now.keys place }
-    ensures once { AreDistinct set.now.keys }
+pub(crate) fn reader_at(set: &Readers, place: usize) -> Option<NodeId>
+    ensures at { result ≡ slice_get (keys_held set.now) place }
+    ensures once { AreDistinct (keys_held set.now) }
     ensures next { IfSome result (λ d. place + 1 < 2 ^ 64) }
 {
     let readers = set.as_slice();
@@ -137,7 +122,7 @@ pub(crate) fn reader_at(set: &IndexSet<u128>, place: usize) -> Option<NodeId>
 }
 
 // Takes a signal's set away.
-fn forget_at(sets: &mut Store<IndexSet<u128>>, id: u128)
+fn forget_at(sets: &mut Store<Readers>, id: u128)
     ensures off { (m d : ℕ) → depends_in sets.new.entries m d ≡ (if m == id then false else depends_in sets.old.entries m d) }
     ensures stands { stands_of sets.new.entries ≡ slice_set (stands_of sets.old.entries) id false }
 {
@@ -148,7 +133,7 @@ fn forget_at(sets: &mut Store<IndexSet<u128>>, id: u128)
 }
 
 /// Takes a signal out of the dependants of its sources, and takes its own set away. It takes no memory.
-pub(crate) fn drop_links(sets: &mut Store<IndexSet<u128>>, sources: &[NodeId], id: u128)
+pub(crate) fn drop_links(sets: &mut Store<Readers>, sources: &[NodeId], id: u128)
     ensures after { Drops (keys_of sets.old.entries) (keys_of sets.new.entries) sources.now id }
     ensures stands { stands_of sets.new.entries ≡ slice_set (stands_of sets.old.entries) id false }
 {

@@ -6,7 +6,7 @@ ghost use Rattle.sig_marks.specs.Tables.{dependants_at, marked_at, with_mark, wi
 
 use crate::links::{drop_links, reader_at, relink};
 use crate::propagation::{drop_mark, is_marked_in, mark_one, spread, unmark_one};
-use indexmap::IndexSet;
+use crate::readers::Readers;
 use sig_base::{NoMemory, NodeId};
 use sig_store::Store;
 use std::alloc::Global;
@@ -16,7 +16,7 @@ use std::marker::Model;
 /// signal. What is gone takes no memory.
 pub struct Marks {
     alloc: Global,
-    dependants: Store<IndexSet<u128>>,
+    dependants: Store<Readers>,
     marked: Store<bool>,
     live: usize,
     // what the last marking marked newly, in its order
@@ -70,7 +70,7 @@ impl Marks {
         self.dependants.reserve(1)?;
         self.marked.reserve(1)?;
         self.fresh.reserve(self.live + 1)?;
-        self.dependants.push(IndexSet::new(self.alloc));
+        self.dependants.push(Readers::Nobody);
         self.marked.push(marked);
         self.live += 1;
         Ok(())
@@ -180,7 +180,13 @@ impl Marks {
         ensures err { OnErr result (self.new ≡ self.old) }
     {
         let _count = self.marked.made();
-        relink(&mut self.dependants, sources, reads, reader.number())?;
+        relink(
+            &mut self.dependants,
+            self.alloc,
+            sources,
+            reads,
+            reader.number(),
+        )?;
         Ok(())
     }
 

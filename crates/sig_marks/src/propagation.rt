@@ -6,7 +6,7 @@ ghost use Rattle.sig_marks.specs.Tables.{AreFresh, AreListed, Spreads, dependant
 ghost use Rattle.sig_marks.specs.Sets.{depends_in, keys_of, marks_of, newly_marked, standing_count, stands_of, unmarked_count, with_marks};
 
 use crate::presence::stands_in;
-use indexmap::IndexSet;
+use crate::readers::Readers;
 use sig_store::Store;
 
 /// Whether a signal is marked, as what is gone counts; past the last one none is.
@@ -99,7 +99,7 @@ fn mark_each(readers: &[u128], marked: &mut Store<bool>, fresh: &mut Vec<u128>)
 }
 
 // The dependants of a signal.
-fn dependants_in(sets: &Store<IndexSet<u128>>, id: u128) -> &[u128]
+fn dependants_in(sets: &Store<Readers>, id: u128) -> &[u128]
     ensures { result.now ≡ dependants_at (keys_of sets.now.entries) id }
 {
     match sets.get(id) {
@@ -110,12 +110,7 @@ fn dependants_in(sets: &Store<IndexSet<u128>>, id: u128) -> &[u128]
 
 // The same for the dependants of one signal. It has the same clauses, but asks that all that depends on anything is within the marks.
 #[inline(always)]
-fn mark_dependants(
-    sets: &Store<IndexSet<u128>>,
-    marked: &mut Store<bool>,
-    fresh: &mut Vec<u128>,
-    id: u128,
-)
+fn mark_dependants(sets: &Store<Readers>, marked: &mut Store<bool>, fresh: &mut Vec<u128>, id: u128)
     requires within { (m d : ℕ) → depends_in sets.now.entries m d ≡ true → d < length marked.old.entries }
     requires room { vec_len fresh.old + unmarked_count (marks_of marked.old.entries) ≤ vec_capacity fresh.old }
     ensures marked { marks_of marked.new.entries ≡ with_marks (dependants_at (keys_of sets.now.entries) id) (marks_of marked.old.entries) }
@@ -132,7 +127,7 @@ fn mark_dependants(
 
 /// Marks the direct and indirect dependants of a signal, as far as they come through unmarked ones, and lists those. It takes no memory.
 pub(crate) fn spread(
-    sets: &Store<IndexSet<u128>>,
+    sets: &Store<Readers>,
     marked: &mut Store<bool>,
     fresh: &mut Vec<u128>,
     id: u128,

@@ -12,5 +12,5 @@ returns-then-not-stands_in c =
 pub returns : goal.returns
 returns c =
     let ss = c.args.sets.now.entries in
-    subst (λ z. Unlinks ss (slice_set ss c.number-id.result (Some c.unlink_one.new.set)) (z ∷ []) c.args.reader) c.number-id.ensures
-    (unlinked ss c.number-id.result c.args.reader c.unlink_one.new.set c.value_mut.result.now c.value_mut.ensures.value c.unlink_one.ensures.off c.unlink_one.ensures.room)
+    subst (λ z. Unlinks ss (slice_set ss c.number-id.result (Some c.remove.new.self)) (z ∷ []) c.args.reader) c.number-id.ensures
+    (unlinked ss c.number-id.result c.args.reader c.remove.new.self c.value_mut-readers.result.now c.value_mut-readers.ensures.value c.remove.ensures.off c.remove.ensures.room)
