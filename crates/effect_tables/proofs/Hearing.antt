@@ -15,12 +15,9 @@ use Rattle.effect_tables.specs.Heard.{is_marked, reads_at, still_in, AreHeard, I
 use Rattle.effect_tables.specs.Runs.{with_reads}
 
 -- where nothing is known
-none_marked : (p : ℕ) (bs : List Bool) → bs ≡ [] → is_marked p bs ≡ false
-none_marked p bs e = ap (is_marked p) e
-
-pub none_heard : (w : Signals) (h : Heard) (xs : List Effect) → h.quiet.items ≡ [] → AreHeard w h xs
+pub none_heard : (w : Signals) (h : Heard) (xs : List Effect) → ((p : ℕ) → is_marked p h.quiet ≡ false) → AreHeard w h xs
 none_heard w h xs none = record {
-  each = λ p x on at. absurd (true≢false (sym on ∙ none_marked p h.quiet.items none));
+  each = λ p x on at. absurd (true≢false (sym on ∙ none p));
 }
 
 -- reads of one effect, in other words
@@ -106,7 +103,7 @@ pub added_heard : (p : ℕ) (w : Signals) (h j : Heard) (xs ys : List Effect) (x
 added_heard p w h j xs ys x added last is a = record {
   each = λ q y on at. elim (found_before q xs x y (sym (ap (λ zs. slice_get zs q) is) ∙ at)) [
     | inl here ↦ quiet_so w w h j q q y.kept (λ s so. record { still = so.still; wakes = ap (λ rs. reads_at rs s.name q) added.readers ∙ so.wakes }) (a.each q y (added.marked q on) here)
-    | inr e ↦ absurd (true≢false (sym on ∙ ap (λ k. is_marked k j.quiet.items) (e ∙ sym last) ∙ added.off))
+    | inr e ↦ absurd (true≢false (sym on ∙ ap (λ k. is_marked k j.quiet) (e ∙ sym last) ∙ added.off))
   ];
 }
 

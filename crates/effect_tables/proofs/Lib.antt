@@ -18,5 +18,6 @@ mod Commands
 mod Visits
 mod TurnByTurn
 mod Marks
+mod Blocks
 mod Hearing
 pub mod Shared

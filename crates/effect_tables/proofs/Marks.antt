@@ -10,26 +10,27 @@ use Rattle.signal_laws.proofs.Shared.{all_snoc}
 use Rattle.effect_model.specs.Worlds as plain
 use Rattle.effect_tables.specs.declared.effect.Effect.{Effect}
 use Rattle.effect_tables.specs.Consistency.{AreRising}
-use Rattle.effect_tables.specs.Heard.{has_place, is_marked, AreMarked}
+use Rattle.effect_tables.specs.declared.quiet_places.QuietPlaces.{QuietPlaces}
+use Rattle.effect_tables.specs.Heard.{has_place, is_marked, is_set, AreSet}
 use Rattle.effect_tables.specs.Placed.{effect_of}
 use Rattle.effect_tables.proofs.Found.{IsNowhere, IsPlace}
 use Rattle.effect_tables.proofs.Kept.{none_behind}
 
 -- ---- one mark is taken
 
-pub set_off : (bs : List Bool) (i : ℕ) → is_marked i (slice_set bs i false) ≡ false
+pub set_off : (bs : List Bool) (i : ℕ) → is_set i (slice_set bs i false) ≡ false
 set_off [] i = refl
 set_off (b ∷ bs) zero = refl
 set_off (b ∷ bs) (suc i) = set_off bs i
 
-pub set_less : (bs : List Bool) (i p : ℕ) → is_marked p (slice_set bs i false) ≡ true → is_marked p bs ≡ true
+pub set_less : (bs : List Bool) (i p : ℕ) → is_set p (slice_set bs i false) ≡ true → is_set p bs ≡ true
 set_less [] i p h = h
 set_less (b ∷ bs) zero zero h = absurd (true≢false (sym h))
 set_less (b ∷ bs) zero (suc p) h = h
 set_less (b ∷ bs) (suc i) zero h = h
 set_less (b ∷ bs) (suc i) (suc p) h = set_less bs i p h
 
-pub beyond_off : (bs : List Bool) (i : ℕ) → length bs ≤ i → is_marked i bs ≡ false
+pub beyond_off : (bs : List Bool) (i : ℕ) → length bs ≤ i → is_set i bs ≡ false
 beyond_off [] i l = refl
 beyond_off (b ∷ bs) zero l = absurd (omega (arith, l))
 beyond_off (b ∷ bs) (suc i) l = beyond_off bs i (omega (arith, l))
@@ -43,23 +44,23 @@ before_or zero (suc q) = inl (omega arith)
 before_or (suc p) (suc q) = elim (before_or p q) [ inl l ↦ inl (omega (arith, l)) | inr m ↦ inr (omega (arith, m)) ]
 
 -- marked ones, and others behind them
-pub marks_joined : (p k j : ℕ) (bs : List Bool) → AreMarked p k bs → AreMarked (p + k) j bs → AreMarked p (k + j) bs
+pub marks_joined : (p k j : ℕ) (bs : List Bool) → AreSet p k bs → AreSet (p + k) j bs → AreSet p (k + j) bs
 marks_joined p k j bs one other q low high = elim (before_or q (p + k)) [
   | inl l ↦ one q low l
   | inr l ↦ other q l (omega (arith, high))
 ]
 
-pub mark_alone : (p : ℕ) (bs : List Bool) → is_marked p bs ≡ true → AreMarked p 1 bs
-mark_alone p bs on q low high = ap (λ r. is_marked r bs) (let e : q ≡ p = omega (arith, low, high) in e) ∙ on
+pub mark_alone : (p : ℕ) (bs : List Bool) → is_set p bs ≡ true → AreSet p 1 bs
+mark_alone p bs on q low high = ap (λ r. is_set r bs) (let e : q ≡ p = omega (arith, low, high) in e) ∙ on
 
 -- so far, and so many more
-pub marks_on : (from p k : ℕ) (bs : List Bool) → ((q : ℕ) → from ≤ q → q < p → is_marked q bs ≡ true) → AreMarked p k bs →
-    (q : ℕ) → from ≤ q → q < p + k → is_marked q bs ≡ true
+pub marks_on : (from p k : ℕ) (bs : List Bool) → ((q : ℕ) → from ≤ q → q < p → is_set q bs ≡ true) → AreSet p k bs →
+    (q : ℕ) → from ≤ q → q < p + k → is_set q bs ≡ true
 marks_on from p k bs before more q low high = elim (before_or q p) [ inl l ↦ before q low l | inr l ↦ more q l high ]
 
 -- from one place on to another, and from there on to a third
-pub joined_passes : (from mid to : ℕ) (bs : List Bool) → ((q : ℕ) → from ≤ q → q < mid → is_marked q bs ≡ true) →
-    ((q : ℕ) → mid ≤ q → q < to → is_marked q bs ≡ true) → (q : ℕ) → from ≤ q → q < to → is_marked q bs ≡ true
+pub joined_passes : (from mid to : ℕ) (bs : List Bool) → ((q : ℕ) → from ≤ q → q < mid → is_set q bs ≡ true) →
+    ((q : ℕ) → mid ≤ q → q < to → is_set q bs ≡ true) → (q : ℕ) → from ≤ q → q < to → is_set q bs ≡ true
 joined_passes from mid to bs before more q low high = elim (before_or q mid) [ inl l ↦ before q low l | inr m ↦ more q m high ]
 
 -- ---- several are
@@ -82,7 +83,7 @@ any_more p q [] h = go (p == q) refl h
     go false e k = absurd cc
 any_more p q (r ∷ ps) h = either_place (p == r) (has_place p ps) (has_place p (ps ++ q ∷ [])) h (any_more p q ps)
 
-pub off_next : (old new : List Bool) (ps : List ℕ) (i place : ℕ) → i < length ps → place ≡ get_or ps i place →
+pub off_next : (old new : QuietPlaces) (ps : List ℕ) (i place : ℕ) → i < length ps → place ≡ get_or ps i place →
     ((p : ℕ) → is_marked p new ≡ true → is_marked p old ≡ true) → is_marked place new ≡ false →
     ((p : ℕ) → has_place p (take i ps) ≡ true → is_marked p old ≡ false) → (p : ℕ) → has_place p (take (i + 1) ps) ≡ true → is_marked p new ≡ false
 off_next old new ps i place l is less off so p h =
@@ -91,7 +92,7 @@ off_next old new ps i place l is less off so p h =
       | inr here ↦ ap (λ q. is_marked q new) here ∙ off
     ]
 
-pub off_all : (bs : List Bool) (ps : List ℕ) (i : ℕ) → length ps ≤ i → ((p : ℕ) → has_place p (take i ps) ≡ true → is_marked p bs ≡ false) →
+pub off_all : (bs : QuietPlaces) (ps : List ℕ) (i : ℕ) → length ps ≤ i → ((p : ℕ) → has_place p (take i ps) ≡ true → is_marked p bs ≡ false) →
     (p : ℕ) → has_place p ps ≡ true → is_marked p bs ≡ false
 off_all bs ps i l so p h = so p (ap (has_place p) (take_all i ps l) ∙ h)
 
@@ -121,14 +122,14 @@ at_other k (suc p) (suc i) low (y ∷ ys) x up here off at = at_other k p i (suc
 
 -- ---- a mark is looked at
 
-pub mark_at : (bs : List Bool) (i : ℕ) (d : Bool) → i < length bs → slice_index_or bs i d ≡ is_marked i bs
+pub mark_at : (bs : List Bool) (i : ℕ) (d : Bool) → i < length bs → slice_index_or bs i d ≡ is_set i bs
 mark_at [] i d l = absurd (omega (arith, l))
 mark_at (b ∷ bs) zero d l = refl
 mark_at (b ∷ bs) (suc i) d l = mark_at bs i d (omega (arith, l))
 
 -- ---- a mark is set
 
-pub set_one : (bs : List Bool) (i p : ℕ) → is_marked p (slice_set bs i true) ≡ true → (is_marked p bs ≡ true) ⊎ (p ≡ i)
+pub set_one : (bs : List Bool) (i p : ℕ) → is_set p (slice_set bs i true) ≡ true → (is_set p bs ≡ true) ⊎ (p ≡ i)
 set_one [] i p h = inl h
 set_one (b ∷ bs) zero zero h = inr refl
 set_one (b ∷ bs) zero (suc p) h = inl h
@@ -136,7 +137,7 @@ set_one (b ∷ bs) (suc i) zero h = inl h
 set_one (b ∷ bs) (suc i) (suc p) h = elim (set_one bs i p h) [ inl was ↦ inl was | inr is ↦ inr (ap suc is) ]
 
 -- one that isn't set is put behind the others
-pub put_off : (bs : List Bool) (p : ℕ) → is_marked p (bs ++ false ∷ []) ≡ true → is_marked p bs ≡ true
+pub put_off : (bs : List Bool) (p : ℕ) → is_set p (bs ++ false ∷ []) ≡ true → is_set p bs ≡ true
 put_off [] zero h = absurd (true≢false (sym h))
 put_off [] (suc p) h = h
 put_off (c ∷ bs) zero h = h

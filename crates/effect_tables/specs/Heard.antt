@@ -1,5 +1,5 @@
 -- Which effects need no look, and which of them a cell wakes.
-use Rattle.std.specs.Prelude.{◌≡◌, ◌⊎◌, ℕ, zero, suc, ◌+◌, ◌<◌, ◌≤◌, ◌==◌, nat_eq, Bool, true, false, List, [], ◌∷◌, slice_get, Option, Some, None}
+use Rattle.std.specs.Prelude.{◌≡◌, ◌⊎◌, ℕ, zero, suc, ◌+◌, ◌<◌, ◌≤◌, ◌/◌, ◌==◌, ◌||◌, nat_eq, Bool, true, false, List, [], ◌∷◌, slice_get, Option, Some, None}
 use Rattle.std.specs.List.{list_any, AllByRecursion}
 use Rattle.std.proofs.Common.{Vec, Global}
 use Rattle.indexmap.specs.IndexMap.{IndexMap, get}
@@ -10,16 +10,22 @@ use Rattle.signal_model.specs.Signals.{Signals, Stands, IsCell, standing}
 use Rattle.signal_model.specs.Values.{Seen}
 use Rattle.effect_model.specs.Worlds.{Effect}
 use Rattle.effect_tables.specs.declared.heard.Heard.{Heard}
+use Rattle.effect_tables.specs.declared.quiet_places.QuietPlaces.{QuietPlaces}
+use Rattle.effect_tables.specs.declared.quiet_places.TheConstants.{BLOCK}
 
--- whether the effect at a place is marked as one that needs no look
-abbrev pub is_marked : ℕ → List Bool → Bool
-is_marked p [] = false
-is_marked zero (b ∷ bs) = b
-is_marked (suc p) (b ∷ bs) = is_marked p bs
+-- whether the mark at a place is set
+abbrev pub is_set : ℕ → List Bool → Bool
+is_set p [] = false
+is_set zero (b ∷ bs) = b
+is_set (suc p) (b ∷ bs) = is_set p bs
 
 -- so many from a place on are
-abbrev pub AreMarked : ℕ → ℕ → List Bool → Type 0
-AreMarked p k bs = (q : ℕ) → p ≤ q → q < p + k → is_marked q bs ≡ true
+abbrev pub AreSet : ℕ → ℕ → List Bool → Type 0
+AreSet p k bs = (q : ℕ) → p ≤ q → q < p + k → is_set q bs ≡ true
+
+-- whether the effect at a place is marked as one that needs no look, with all of its block or by itself
+abbrev pub is_marked : ℕ → QuietPlaces → Bool
+is_marked p q = is_set (p / BLOCK) q.full.items || is_set p q.ones.items
 
 -- whether a place is among these
 abbrev pub has_place : ℕ → List ℕ → Bool
@@ -36,26 +42,26 @@ reads_at m n p = holds (get nat_eq m n) p
 
 -- A cell has another value: what it wakes needs a look, and of the others none more is marked.
 pub record IsWoken (n : ℕ) (old new : Heard) : Type 0 where
-  pub marked : (p : ℕ) → is_marked p new.quiet.items ≡ true → is_marked p old.quiet.items ≡ true
-  pub woken : (p : ℕ) → is_marked p new.quiet.items ≡ true → reads_at old.readers n p ≡ false
+  pub marked : (p : ℕ) → is_marked p new.quiet ≡ true → is_marked p old.quiet ≡ true
+  pub woken : (p : ℕ) → is_marked p new.quiet ≡ true → reads_at old.readers n p ≡ false
   pub readers : new.readers ≡ old.readers
 
 -- The effect at a place may be marked, and each of these reads wakes it then. Of the others none more is marked, and cells wake as before.
 pub record IsHeard (p : ℕ) (ss : List Seen) (old new : Heard) : Type 0 where
-  pub marked : (q : ℕ) → is_marked q new.quiet.items ≡ true → (is_marked q old.quiet.items ≡ true) ⊎ (q ≡ p)
+  pub marked : (q : ℕ) → is_marked q new.quiet ≡ true → (is_marked q old.quiet ≡ true) ⊎ (q ≡ p)
   pub more : (n q : ℕ) → reads_at old.readers n q ≡ true → reads_at new.readers n q ≡ true
   pub each : AllByRecursion (λ (s : Seen). reads_at new.readers s.name p ≡ true) ss
 
 -- At a place none is marked, as where an effect is made there. Of the others none more is, and cells wake as before.
 pub record IsAdded (p : ℕ) (old new : Heard) : Type 0 where
-  pub marked : (q : ℕ) → is_marked q new.quiet.items ≡ true → is_marked q old.quiet.items ≡ true
-  pub off : is_marked p new.quiet.items ≡ false
+  pub marked : (q : ℕ) → is_marked q new.quiet ≡ true → is_marked q old.quiet ≡ true
+  pub off : is_marked p new.quiet ≡ false
   pub readers : new.readers ≡ old.readers
 
 -- Of the effect of a number none is marked. Of the others none more is, and cells wake as before.
 pub record IsMissed (e : ℕ) (xs : List Effect) (old new : Heard) : Type 0 where
-  pub marked : (p : ℕ) → is_marked p new.quiet.items ≡ true → is_marked p old.quiet.items ≡ true
-  pub off : (p : ℕ) (x : Effect) → is_marked p new.quiet.items ≡ true → slice_get xs p ≡ Some x → (e == x.number) ≡ false
+  pub marked : (p : ℕ) → is_marked p new.quiet ≡ true → is_marked p old.quiet ≡ true
+  pub off : (p : ℕ) (x : Effect) → is_marked p new.quiet ≡ true → slice_get xs p ≡ Some x → (e == x.number) ≡ false
   pub readers : new.readers ≡ old.readers
 
 -- whether what stands is a cell that has this value
@@ -75,4 +81,4 @@ IsQuiet w h p (Some ss) = AllByRecursion (IsHeardOf w h p) ss
 
 -- so it is with each effect that is marked
 pub record AreHeard (w : Signals) (h : Heard) (xs : List Effect) : Type 0 where
-  pub each : (p : ℕ) (x : Effect) → is_marked p h.quiet.items ≡ true → slice_get xs p ≡ Some x → IsQuiet w h p x.kept
+  pub each : (p : ℕ) (x : Effect) → is_marked p h.quiet ≡ true → slice_get xs p ≡ Some x → IsQuiet w h p x.kept

@@ -1,14 +1,14 @@
 // Effects that need no look, and the cells that wake them.
-ghost use Rattle.std.specs.Prelude.{◌≡◌, ◌⊎◌, ◌==◌, ◌+◌, ◌<◌, ◌≤◌, [], ℕ, None, Some, true, false, nat_eq, if◌then◌else◌, length, map, IsTrue, OnOk};
+ghost use Rattle.std.specs.Prelude.{◌≡◌, ◌==◌, ◌<◌, ◌≤◌, ℕ, None, Some, true, false, nat_eq, if◌then◌else◌, map, OnOk};
 ghost use Rattle.std.specs.List.{AllByRecursion};
 ghost use Rattle.indexmap.specs.IndexMap.{get};
 ghost use Rattle.effect_tables.specs.Consistency.{AreRising};
-ghost use Rattle.effect_tables.specs.declared.heard.TheConstants.{MANY};
-ghost use Rattle.effect_tables.specs.Heard.{has_place, is_marked, reads_at, AreMarked, IsAdded, IsHeard, IsMissed, IsWoken};
+ghost use Rattle.effect_tables.specs.Heard.{has_place, is_marked, reads_at, IsAdded, IsHeard, IsMissed, IsWoken};
 ghost use Rattle.effect_tables.specs.Placed.{effect_of};
 
 use crate::effect::Effect;
 use crate::lookup::effect_place;
+use crate::quiet_places::QuietPlaces;
 use indexmap::IndexMap;
 use sig_base::{EffectId, NoMemory, NodeId};
 use sig_untrack::Read;
@@ -16,7 +16,7 @@ use std::alloc::Global;
 
 /// Effects that need no look, by their places, and for each cell the places of those that it wakes. A cell may wake more than need be.
 pub struct Heard {
-    pub quiet: Vec<bool>,
+    pub quiet: QuietPlaces,
     pub readers: IndexMap<NodeId, Vec<usize>>,
 }
 
@@ -29,121 +29,13 @@ impl Drop for Heard {
     }
 }
 
-// The effect at a place needs a look.
-fn rouse(quiet: &mut Vec<bool>, place: usize)
-    ensures less { (p : ℕ) → is_marked p quiet.new.items ≡ true → is_marked p quiet.old.items ≡ true }
-    ensures off { is_marked place quiet.new.items ≡ false }
-{
-    if place < quiet.len() {
-        quiet[place] = false;
-    }
-}
-
-// Whether two marks are set, from a place on.
-fn are_two(quiet: &[bool], place: usize) -> bool
-    requires { place + 2 ≤ length quiet.now }
-    ensures { IsTrue result → AreMarked place 2 quiet.now }
-{
-    let one = quiet[place];
-    let other = quiet[place + 1];
-    one & other
-}
-
-// Whether four are.
-fn are_four(quiet: &[bool], place: usize) -> bool
-    requires { place + 4 ≤ length quiet.now }
-    ensures { IsTrue result → AreMarked place 4 quiet.now }
-{
-    let front = are_two(quiet, place);
-    let rest = are_two(quiet, place + 2);
-    front & rest
-}
-
-// Whether eight are. No test stands between them.
-fn are_eight(quiet: &[bool], place: usize) -> bool
-    requires { place + 8 ≤ length quiet.now }
-    ensures { IsTrue result → AreMarked place 8 quiet.now }
-{
-    let front = are_four(quiet, place);
-    let rest = are_four(quiet, place + 4);
-    front & rest
-}
-
-// How many marks are joined at once where many are set, at most.
-const MANY: usize = 128;
-
-// Whether so many are. They are joined in one loop without a test, whose count isn't known before, so that wide instructions take them together.
-fn are_many(quiet: &[bool], place: usize, count: usize) -> bool
-    requires { place + count ≤ length quiet.now }
-    ensures { IsTrue result → AreMarked place count quiet.now }
-{
-    let mut all = true;
-    for at in 0..count {
-        let mark = quiet[place + at];
-        all = all & mark;
-    }
-    all
-}
-
-// How many marks are joined next, of so many that are left.
-fn next_many(left: usize) -> usize
-    requires { 0 < left }
-    ensures some { 0 < result }
-    ensures within { result ≤ left }
-{
-    if left < MANY { left } else { MANY }
-}
-
-// A place behind this one and marks that are set, many at a time.
-fn past_many(quiet: &[bool], from: usize) -> usize
-    ensures on { from ≤ result }
-    ensures passed { (p : ℕ) → from ≤ p → p < result → is_marked p quiet.now ≡ true }
-{
-    let mut place = from;
-    'passing: while place < quiet.len() {
-        let count = next_many(quiet.len() - place);
-        if !are_many(quiet, place, count) {
-            return place;
-        }
-        place += count;
-    }
-    place
-}
-
-// A place behind this one and marks that are set, eight at a time.
-fn past_eights(quiet: &[bool], from: usize) -> usize
-    ensures on { from ≤ result }
-    ensures passed { (p : ℕ) → from ≤ p → p < result → is_marked p quiet.now ≡ true }
-{
-    let mut place = from;
-    'passing: while quiet.len().saturating_sub(place) >= 8 {
-        if !are_eight(quiet, place) {
-            return place;
-        }
-        place += 8;
-    }
-    place
-}
-
-// The first place from this one on whose mark isn't set.
-fn past_ones(quiet: &[bool], from: usize) -> usize
-    ensures on { from ≤ result }
-    ensures passed { (p : ℕ) → from ≤ p → p < result → is_marked p quiet.now ≡ true }
-{
-    let mut place = from;
-    while place < quiet.len() && quiet[place] {
-        place += 1;
-    }
-    place
-}
-
-// So do those at these places.
-fn rouse_each(quiet: &mut Vec<bool>, places: &[usize])
-    ensures less { (p : ℕ) → is_marked p quiet.new.items ≡ true → is_marked p quiet.old.items ≡ true }
-    ensures off { (p : ℕ) → has_place p places.now ≡ true → is_marked p quiet.new.items ≡ false }
+// The effects at these places need a look.
+fn rouse_each(quiet: &mut QuietPlaces, places: &[usize])
+    ensures less { (p : ℕ) → is_marked p quiet.new ≡ true → is_marked p quiet.old ≡ true }
+    ensures off { (p : ℕ) → has_place p places.now ≡ true → is_marked p quiet.new ≡ false }
 {
     for place in places {
-        rouse(quiet, *place);
+        quiet.rouse(*place);
     }
 }
 
@@ -222,42 +114,20 @@ fn note_each(
     Ok(())
 }
 
-// There are so many marks at least, and none more is set.
-fn fill(quiet: &mut Vec<bool>, count: usize) -> Result<(), NoMemory>
-    ensures { OnOk result ((p : ℕ) → is_marked p quiet.new.items ≡ true → is_marked p quiet.old.items ≡ true) }
-{
-    for _ in quiet.len()..count {
-        quiet.push(false)?;
-    }
-    Ok(())
-}
-
-// The effect at a place is marked.
-fn mark(quiet: &mut Vec<bool>, place: usize) -> Result<(), NoMemory>
-    ensures { OnOk result ((p : ℕ) → is_marked p quiet.new.items ≡ true → (is_marked p quiet.old.items ≡ true) ⊎ (p ≡ place)) }
-{
-    fill(quiet, place.saturating_add(1))?;
-    if place < quiet.len() {
-        quiet[place] = true;
-        return Ok(());
-    }
-    Ok(())
-}
-
 impl Heard {
     /// Of no effect anything is known.
     pub fn new(alloc: Global) -> Heard
-        ensures { result.quiet.items ≡ [] }
+        ensures { (p : ℕ) → is_marked p result.quiet ≡ false }
     {
         Heard {
-            quiet: Vec::new(alloc),
+            quiet: QuietPlaces::new(alloc),
             readers: IndexMap::new(alloc),
         }
     }
 
     /// Nothing is known any more, as after an end. It takes no memory.
     pub fn forget(&mut self)
-        ensures { self.new.quiet.items ≡ [] }
+        ensures { (p : ℕ) → is_marked p self.new.quiet ≡ false }
     {
         self.quiet.clear();
         self.readers.clear();
@@ -266,11 +136,9 @@ impl Heard {
     /// The next place from one on whose effect may need a look.
     pub fn next_loud(&self, from: usize) -> usize
         ensures on { from ≤ result }
-        ensures passed { (p : ℕ) → from ≤ p → p < result → is_marked p self.now.quiet.items ≡ true }
+        ensures passed { (p : ℕ) → from ≤ p → p < result → is_marked p self.now.quiet ≡ true }
     {
-        let far = past_many(&self.quiet, from);
-        let near = past_eights(&self.quiet, far);
-        past_ones(&self.quiet, near)
+        self.quiet.next_loud(from)
     }
 
     /// A cell has another value: the effects that it wakes need a look. It takes no memory.
@@ -291,14 +159,14 @@ impl Heard {
         let Some(place) = effect_place(effects, id) else {
             return;
         };
-        rouse(&mut self.quiet, place);
+        self.quiet.rouse(place);
     }
 
     /// An effect is made at this place, behind all others: it needs a look. It takes no memory.
     pub fn add(&mut self, place: usize)
         ensures { IsAdded place self.old self.new }
     {
-        rouse(&mut self.quiet, place);
+        self.quiet.rouse(place);
     }
 
     /// The effect at a place, which read these, needs no look until one of them wakes it.
@@ -310,7 +178,7 @@ impl Heard {
         ensures { OnOk result (IsHeard place reads.now self.old self.new) }
     {
         note_each(&mut self.readers, alloc, place, reads)?;
-        mark(&mut self.quiet, place)?;
+        self.quiet.mark(place)?;
         Ok(())
     }
 }

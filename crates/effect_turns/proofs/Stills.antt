@@ -51,7 +51,7 @@ kept_heard w h p None quiet = absurd quiet
 kept_heard w h p (Some ss) quiet = all_still w h p ss quiet
 
 -- the effect of a number stands at a place that is marked
-pub known_quiet : (w : World) (p e : ℕ) (x : plain.Effect) → Hears w → is_marked p w.heard.quiet.items ≡ true →
+pub known_quiet : (w : World) (p e : ℕ) (x : plain.Effect) → Hears w → is_marked p w.heard.quiet ≡ true →
     slice_get (map effect_of w.tables.effects.items) p ≡ Some x → effect_at e (map effect_of w.tables.effects.items) ≡ Some x → IsQuiet e w
 known_quiet w p e x heard on here lives = record {
   effect = x;

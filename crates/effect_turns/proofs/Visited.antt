@@ -114,7 +114,7 @@ find e (x ∷ xs) = go (e == x.number) refl (find e xs)
 
 -- the next one, where the marked ones are passed over
 pub next_is : (w : World) (low n k : ℕ) → TablesAgree w.tables → Hears w → Parts low n w.tables.effects.items → n ≤ k →
-    ((p : ℕ) → n ≤ p → p < k → is_marked p w.heard.quiet.items ≡ true) → IsNext low k w
+    ((p : ℕ) → n ≤ p → p < k → is_marked p w.heard.quiet ≡ true) → IsNext low k w
 next_is w low n k agree heard parts on marks = record {
   passed = λ p x l at up. elim (before_or p n) [
     | inl before ↦ absurd (let f = parts.before p before x at in omega (arith, f, up))

@@ -5,6 +5,6 @@ use Rattle.effect_tables.proofs.heard.rouse_each.Given as goal
 -- none more is marked, and none of those so far
 abbrev pub invariant-loop-place : goal.invariant-loop-place
 invariant-loop-place l = record {
-  less : (p : ℕ) → is_marked p l.quiet.items ≡ true → is_marked p l.fn.quiet.items ≡ true;
-  off : (p : ℕ) → has_place p (take l.place-index l.places) ≡ true → is_marked p l.quiet.items ≡ false;
+  less : (p : ℕ) → is_marked p l.quiet ≡ true → is_marked p l.fn.quiet ≡ true;
+  off : (p : ℕ) → has_place p (take l.place-index l.places) ≡ true → is_marked p l.quiet ≡ false;
 }

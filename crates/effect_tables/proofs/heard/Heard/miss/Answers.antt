@@ -17,6 +17,6 @@ returns c = record {
   marked = c.rouse.ensures.less;
   off = λ p x on at.
       at_other c.args.id p c.in-Some.place 0 c.args.effects.now x c.requires (place_is c.args.id c.args.effects.now c.in-Some.place c.in-Some.ensures)
-      (λ e. true≢false (sym on ∙ ap (λ q. is_marked q c.rouse.new.quiet.items) e ∙ c.rouse.ensures.off)) at;
+      (λ e. true≢false (sym on ∙ ap (λ q. is_marked q c.rouse.new.self) e ∙ c.rouse.ensures.off)) at;
   readers = refl;
 }

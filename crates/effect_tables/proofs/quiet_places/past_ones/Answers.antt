@@ -1,6 +1,6 @@
 use Rattle.std.proofs.Common.{false, sym, ◌∙◌, arith}
 use Rattle.effect_tables.proofs.Marks.{mark_alone, mark_at, marks_on}
-use Rattle.effect_tables.proofs.heard.past_ones.Goals as goal
+use Rattle.effect_tables.proofs.quiet_places.past_ones.Goals as goal
 
 pub loop-place-preserved : goal.loop-place-preserved
 loop-place-preserved c =
@@ -9,6 +9,6 @@ loop-place-preserved c =
     let t = c.loop-place-test.true in
     record {
       on = omega (arith, o);
-      passed = marks_on c.args.from c.loop-place.place 1 c.args.quiet.now v.passed
-          (mark_alone c.loop-place.place c.args.quiet.now (sym (mark_at c.args.quiet.now c.loop-place.place false (omega (arith, t))) ∙ c.if-quiet-place.true));
+      passed = marks_on c.args.from c.loop-place.place 1 c.args.marks.now v.passed
+          (mark_alone c.loop-place.place c.args.marks.now (sym (mark_at c.args.marks.now c.loop-place.place false (omega (arith, t))) ∙ c.if-marks-place.true));
     }

@@ -1,6 +1,6 @@
 use Rattle.std.proofs.Common.{arith}
 use Rattle.effect_tables.proofs.Marks.{marks_on}
-use Rattle.effect_tables.proofs.heard.past_eights.Goals as goal
+use Rattle.effect_tables.proofs.quiet_places.past_eights.Goals as goal
 
 pub passing-preserved : goal.passing-preserved
 passing-preserved c =
@@ -8,5 +8,5 @@ passing-preserved c =
     let o = v.on in
     record {
       on = omega (arith, o);
-      passed = marks_on c.args.from c.passing.place 8 c.args.quiet.now v.passed (c.are_eight.ensures c.if-not-are_eight.false);
+      passed = marks_on c.args.from c.passing.place 8 c.args.marks.now v.passed (c.are_eight.ensures c.if-not-are_eight.false);
     }
