@@ -42,6 +42,21 @@ stand_more w k ps from place m was each at one i n o le lt is = elim (cases_lt i
         let both : Some (n, o) ≡ Some (m, was) = sym is ∙ ap (slice_get ps) same ∙ at in
         subst (λ (p : ℕ × Outcome). StandsAs w k p.0 p.1) (sym (ap (λ (q : Option (ℕ × Outcome)). unwrap_or q (n, o)) both)) one
 
+-- one that isn't known from below, and those behind it
+pub stand_on : (w : Signals) (k : Memos) (ps : Outcomes) (from place to m : ℕ) (was : Outcome) → StandBetween w k ps from place →
+    slice_get ps place ≡ Some (m, was) → StandsAs w k m was → StandBetween w k ps (place + 1) to → StandBetween w k ps from to
+stand_on w k ps from place to m was first at one behind =
+    let low = first.least in
+    let next = behind.least in
+    record {
+      least = omega (arith, low, next);
+      most = behind.most;
+      each = λ i n o le lt is. elim (cases_lt i (place + 1)) [
+        | inl below ↦ stand_more w k ps from place m was first.each at one i n o le below is
+        | inr above ↦ behind.each i n o above lt is
+      ];
+    }
+
 -- one more of them is heard without a look below
 stood_one_more : (x : Scene) (before : Hosts → Type 0) (ps : Outcomes) (from place to : ℕ) → IsIdle x.graph.state → to ≡ place + 1 → place < length ps →
     ((n : ℕ) (o : Outcome) → slice_get ps place ≡ Some (n, o) → StandsAs x.graph.state.signals x.graph.state.memos n o) →

@@ -9,7 +9,7 @@ ghost use Rattle.tpl_hearing.specs.Standing.{StandBetween};
 
 use crate::comparisons::{Rehearing, hear_compared};
 use crate::outcomes::{Outcomes, settle_name};
-use crate::still::stands_as;
+use crate::still::{is_number_as, stands_as};
 use sig_base::{NoMemory, NodeId, Outcome};
 use sig_computed::RunNote;
 use sig_graph::Graph;
@@ -128,7 +128,25 @@ fn pair_at<'a>(ids: &[NodeId], outcomes: &'a [Outcome], place: usize) -> (NodeId
     (ids[place], &outcomes[place])
 }
 
-// The first place from this one on where a name doesn't show the outcome of before as it stands, or the end.
+// The first place from this one on where a name isn't a cell that shows the number of before, or the end.
+#[inline(always)]
+fn numbers_up_to(graph: &Graph, ids: &[NodeId], outcomes: &[Outcome], from: usize) -> usize
+    requires within { length outcomes.now ≤ length ids.now }
+    requires from { from ≤ length outcomes.now }
+    ensures { StandBetween graph.now.state.signals graph.now.state.memos (zip ids.now outcomes.now) from result }
+{
+    let count = outcomes.len();
+    for place in from..count {
+        let (id, was) = pair_at(ids, outcomes, place);
+        if !is_number_as(graph, id, was) {
+            return place;
+        }
+    }
+    count
+}
+
+// The first place from this one on where a name doesn't show the outcome of before as it stands, or the end. Cells that show numbers are passed over
+// in a loop of their own.
 #[inline(never)]
 fn standing_up_to(graph: &mut Graph, ids: &[NodeId], outcomes: &[Outcome], from: usize) -> usize
     requires within { length outcomes.now ≤ length ids.now }
@@ -136,14 +154,16 @@ fn standing_up_to(graph: &mut Graph, ids: &[NodeId], outcomes: &[Outcome], from:
     ensures same { graph.new ≡ graph.old }
     ensures stand { StandBetween graph.old.state.signals graph.old.state.memos (zip ids.now outcomes.now) from result }
 {
-    let count = outcomes.len();
-    for place in from..count {
+    let mut place = numbers_up_to(graph, ids, outcomes, from);
+    while place < outcomes.len() {
         let (id, was) = pair_at(ids, outcomes, place);
         if !stands_as(graph, id, was) {
             return place;
         }
+        let next = numbers_up_to(graph, ids, outcomes, place + 1);
+        place = next;
     }
-    count
+    place
 }
 
 // Settles the name at a place, before which each name has the outcome of before: what was heard then, or nothing where it has that outcome too.

@@ -31,6 +31,28 @@ fn is_value(outcome: &Outcome, value: &Value) -> bool
     }
 }
 
+// Whether an outcome is this value, where both are numbers.
+#[inline(always)]
+fn is_number(outcome: &Outcome, value: &Value) -> bool
+    ensures { result ≡ true → outcome.now ≡ Good value.now }
+{
+    match (outcome, value) {
+        (Outcome::Good(Value::Int(m)), Value::Int(n)) => *m == *n,
+        _ => false,
+    }
+}
+
+/// Whether a signal is a cell that shows the number of an outcome as it stands. It calls nothing, so that it may be asked of many names in a loop.
+#[inline(always)]
+pub(crate) fn is_number_as(graph: &Graph, id: NodeId, was: &Outcome) -> bool
+    ensures { result ≡ true → StandsAs graph.now.state.signals graph.now.state.memos id was.now }
+{
+    match graph.cell_value(id) {
+        Some(value) => is_number(was, value),
+        None => false,
+    }
+}
+
 // Whether a cell shows an outcome, where a cell stands.
 #[inline(always)]
 fn is_cell_as(graph: &Graph, id: NodeId, was: &Outcome) -> Option<bool>

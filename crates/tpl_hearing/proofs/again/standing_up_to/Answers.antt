@@ -1,41 +1,34 @@
-use Rattle.std.proofs.Common.{refl, subst, ◌∙◌, arith}
+use Rattle.std.proofs.Common.{◌+◌, refl, subst, ◌∙◌, arith}
 use Rattle.std.specs.List.{zip}
 use Rattle.sig_graph.specs.States.{Seen}
 use Rattle.tpl_hearing.specs.HeardAgain.{StandsAs}
-use Rattle.tpl_hearing.proofs.Paired.{count_paired}
-use Rattle.tpl_hearing.proofs.Stood.{stand_more}
+use Rattle.tpl_hearing.specs.Standing.{StandBetween}
+use Rattle.tpl_hearing.proofs.Stood.{stand_on}
 use Rattle.tpl_hearing.proofs.again.standing_up_to.Goals as goal
 
 pub loop-place-init : goal.loop-place-init
-loop-place-init c = record { same = refl; low = omega arith; each = λ i n o le lt. absurd (omega (arith, le, lt)) }
+loop-place-init c = record { same = refl; stand = c.numbers_up_to-place.ensures }
+
+pub numbers_up_to-next-requires-clause-from : goal.numbers_up_to-next-requires-clause-from
+numbers_up_to-next-requires-clause-from c = let low = c.loop-place-test.true in omega (arith, low)
 
 pub loop-place-preserved : goal.loop-place-preserved
 loop-place-preserved c =
     let w = c.args.graph.now.state.signals in
     let k = c.args.graph.now.state.memos in
-    let low = c.loop-place.invariant.low in
-    let one = subst (λ (g : Seen). StandsAs g.state.signals g.state.memos c.pair_at-id.result.0 c.pair_at-id.result.1.now) c.loop-place.invariant.same
+    let ps = zip c.args.ids.now c.args.outcomes.now in
+    let before = c.loop-place.invariant.same in
+    let one = subst (λ (g : Seen). StandsAs g.state.signals g.state.memos c.pair_at-id.result.0 c.pair_at-id.result.1.now) before
     (c.stands_as.ensures.stands c.if-not-stands_as.false) in
     record {
-      same = c.stands_as.ensures.same ∙ c.loop-place.invariant.same;
-      low = omega (arith, low);
-      each = stand_more w k (zip c.args.ids.now c.args.outcomes.now) c.args.from c.loop-place.place c.pair_at-id.result.0 c.pair_at-id.result.1.now
-          c.loop-place.invariant.each c.pair_at-id.ensures one;
+      same = c.stands_as.ensures.same ∙ before;
+      stand = stand_on w k ps c.args.from c.loop-place.place c.numbers_up_to-next.result c.pair_at-id.result.0 c.pair_at-id.result.1.now
+          c.loop-place.invariant.stand c.pair_at-id.ensures one
+          (subst (λ (g : Seen). StandBetween g.state.signals g.state.memos ps (c.loop-place.place + 1) c.numbers_up_to-next.result)
+          (c.stands_as.ensures.same ∙ before) c.numbers_up_to-next.ensures);
     }
 
-pub returns-then-not-stands_as-clause-stand : goal.returns-then-not-stands_as-clause-stand
-returns-then-not-stands_as-clause-stand c =
-    let low = c.loop-place-test.true in
-    let long = count_paired c.args.ids.now c.args.outcomes.now c.requires.within in
-    record { least = c.loop-place.invariant.low; most = omega (arith, low, long); each = c.loop-place.invariant.each }
-
-pub returns-clause-stand : goal.returns-clause-stand
-returns-clause-stand c =
-    let high = c.loop-place-test.false in
-    let from = c.requires.from in
-    let long = count_paired c.args.ids.now c.args.outcomes.now c.requires.within in
-    record {
-      least = omega (arith, from);
-      most = omega (arith, long);
-      each = λ i n o le lt at. c.loop-place.invariant.each i n o le (omega (arith, lt, high)) at;
-    }
+pub loop-place-smaller : goal.loop-place-smaller
+loop-place-smaller c =
+    let least = c.numbers_up_to-next.ensures.least in
+    let low = c.loop-place-test.true in omega (arith, least, low)
