@@ -112,8 +112,7 @@ fn front(alloc: Global, before: &Outcomes, count: usize) -> Result<Rehearing, No
     let mut hearing = Rehearing::beside(alloc, before)?;
     for place in 0..count {
         let (id, outcome) = before.at(place);
-        let outcome = outcome.copy()?;
-        hearing.put(id, outcome, true)?;
+        hearing.put_same(id, outcome)?;
     }
     Ok(hearing)
 }

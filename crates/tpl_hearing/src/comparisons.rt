@@ -14,13 +14,25 @@ use sig_host::{Lent, Shelf};
 use std::alloc::Global;
 use std::marker::Model;
 
+// Puts a name behind others, and whether it is the same.
+#[inline(always)]
+fn put_note(noted: &mut Vec<(NodeId, bool)>, id: NodeId, same: bool) -> Result<(), NoMemory>
+    ensures { OnOk result (noted.new.items ≡ noted.old.items ++ (id, same) ∷ []) }
+{
+    if noted.len() < noted.capacity() {
+        noted.push_reserved((id, same));
+        return Ok(());
+    }
+    noted.push((id, same))?;
+    Ok(())
+}
+
 // It is noted that this is known of a name.
 #[inline(always)]
 fn note(noted: &mut Vec<(NodeId, bool)>, id: NodeId, same: bool) -> Result<(), NoMemory>
     ensures { (before heard : Heard) → AllCompared before heard noted.old.items → IsCompared before heard id same → OnOk result (AllCompared before heard noted.new.items) }
 {
-    noted.reserve(1)?;
-    noted.push_reserved((id, same));
+    put_note(noted, id, same)?;
     Ok(())
 }
 
@@ -185,6 +197,26 @@ impl Rehearing {
         true
     }
 
+    /// Puts a name behind the others with a copy of its outcome of before, where it is the next one that is expected; whether it is.
+    ///
+    /// # Errors
+    ///
+    /// `NoMemory` alone.
+    #[inline(always)]
+    pub(crate) fn put_next(&mut self, id: NodeId, was: &Outcome) -> Result<bool, NoMemory>
+        ensures new { IfOk result (λ next. next ≡ true → heard_of self.old.heard id ≡ None) }
+        ensures heard { IfOk result (λ next. next ≡ true → self.new.heard ≡ self.old.heard ++ (id, was.now) ∷ []) }
+        ensures other { IfOk result (λ next. next ≡ false → self.new ≡ self.old) }
+        ensures compared { (before : Heard) → AreCompared before self.old → heard_of before id ≡ Some was.now → OnOk result (AreCompared before self.new) }
+    {
+        let place = self.heard.count();
+        if !self.heard.put_next(id, was)? {
+            return Ok(false);
+        }
+        self.compared.put(place, id, true)?;
+        Ok(true)
+    }
+
     /// Puts a name behind the others, of which it is known whether it has the outcome of before.
     ///
     /// # Errors
@@ -199,6 +231,25 @@ impl Rehearing {
         let place = self.heard.count();
         self.heard.put(id, outcome)?;
         self.compared.put(place, id, same)?;
+        Ok(())
+    }
+
+    /// Puts a name behind the others with a copy of its outcome of before.
+    ///
+    /// # Errors
+    ///
+    /// `NoMemory` alone.
+    #[inline(always)]
+    pub(crate) fn put_same(&mut self, id: NodeId, was: &Outcome) -> Result<(), NoMemory>
+        requires { heard_of self.old.heard id ≡ None }
+        ensures heard { OnOk result (self.new.heard ≡ self.old.heard ++ (id, was.now) ∷ []) }
+        ensures compared { (before : Heard) → AreCompared before self.old → heard_of before id ≡ Some was.now → OnOk result (AreCompared before self.new) }
+    {
+        if self.put_next(id, was)? {
+            return Ok(());
+        }
+        let outcome = was.copy()?;
+        self.put(id, outcome, true)?;
         Ok(())
     }
 }
@@ -216,17 +267,14 @@ fn hear_expected(
     ensures other { IfOk result (λ s. s ≡ false → hearing.new.heard ≡ hearing.old.heard) }
     ensures compared { AreCompared before.now hearing.old → OnOk result (AreCompared before.now hearing.new) }
 {
-    if !hearing.heard.is_next(id) {
-        return Ok(false);
-    }
     let Some(was) = before.here(hearing.heard.count(), id) else {
         return Ok(false);
     };
     if !stands_as(graph, id, was) {
         return Ok(false);
     }
-    hearing.put(id, was.copy()?, true)?;
-    Ok(true)
+    let next = hearing.put_next(id, was)?;
+    Ok(next)
 }
 
 // Hears a name, whatever is known of it. Its clauses are those of hearing a name.

@@ -1,5 +1,5 @@
 // What is heard of names while a page is brought up to date: each of them is settled once.
-ghost use Rattle.std.specs.Prelude.{◌≡◌, ◌<◌, ◌≤◌, ◌++◌, ◌∷◌, [], List, false, length, nat_eq, slice_get, take, true, None, Some, IfNone, IfOk, IfSome, OnOk, unwrap_or};
+ghost use Rattle.std.specs.Prelude.{◌≡◌, ◌<◌, ◌≤◌, ◌++◌, ◌∷◌, [], List, false, length, nat_eq, slice_get, take, true, None, Some, IfNone, IfOk, IfSome, OnErr, OnOk, unwrap_or};
 ghost use Rattle.std.specs.List.{list_any, zip, AllByRecursion, IsDistinct};
 ghost use Rattle.std.specs.Map.{keys_of};
 ghost use Rattle.std.specs.Option.{option_copied};
@@ -55,6 +55,36 @@ fn outcome_at(outcomes: &[Outcome], place: usize) -> Option<&Outcome>
     ensures { option_copied result ≡ slice_get outcomes.now place }
 {
     outcomes.get(place)
+}
+
+// Puts a copy of an outcome behind others. It stands apart, as mostly it is a number and there is room.
+#[inline(never)]
+fn push_any(outcomes: &mut Vec<Outcome>, outcome: &Outcome) -> Result<(), NoMemory>
+    ensures put { OnOk result (outcomes.new.items ≡ outcomes.old.items ++ outcome.now ∷ []) }
+    ensures other { OnErr result (outcomes.new.items ≡ outcomes.old.items) }
+{
+    let copy = outcome.copy()?;
+    outcomes.reserve(1)?;
+    outcomes.push_reserved(copy);
+    Ok(())
+}
+
+// Puts a copy of an outcome behind others: a number at once, where there is room for it.
+#[inline(always)]
+fn push_copy(outcomes: &mut Vec<Outcome>, outcome: &Outcome) -> Result<(), NoMemory>
+    ensures put { OnOk result (outcomes.new.items ≡ outcomes.old.items ++ outcome.now ∷ []) }
+    ensures other { OnErr result (outcomes.new.items ≡ outcomes.old.items) }
+{
+    let Outcome::Good(Value::Int(number)) = outcome else {
+        push_any(outcomes, outcome)?;
+        return Ok(());
+    };
+    if outcomes.len() < outcomes.capacity() {
+        outcomes.push_reserved(Outcome::Good(Value::Int(*number)));
+        return Ok(());
+    }
+    push_any(outcomes, outcome)?;
+    Ok(())
 }
 
 // A name is the next one behind so many.
@@ -166,7 +196,7 @@ impl Outcomes {
         }
     }
 
-    /// Where a name was heard, and the outcome that was heard of it.
+    /// Where a name was heard, and the outcome that was heard of it. One that is read again and again was heard last mostly.
     pub(crate) fn find(&self, id: NodeId) -> Option<(usize, &Outcome)>
         ensures some { IfSome result (λ p. heard_of self.now id ≡ Some p.1.now) }
         ensures none { IfNone result (heard_of self.now id ≡ None) }
@@ -174,7 +204,11 @@ impl Outcomes {
         if self.is_next(id) {
             return None;
         }
-        self.find_listed(id)
+        let last = self.outcomes.len().wrapping_sub(1);
+        match self.here(last, id) {
+            Some(outcome) => Some((last, outcome)),
+            None => self.find_listed(id),
+        }
     }
 
     /// The outcome that was heard at a place, where it is that of this name.
@@ -244,6 +278,25 @@ impl Outcomes {
             unreachable!();
         };
         (id, outcome)
+    }
+
+    /// Puts a name behind the others with a copy of this outcome, where it is the next one that is expected; whether it is.
+    ///
+    /// # Errors
+    ///
+    /// `NoMemory` alone.
+    #[inline(always)]
+    pub(crate) fn put_next(&mut self, id: NodeId, outcome: &Outcome) -> Result<bool, NoMemory>
+        ensures new { IfOk result (λ next. next ≡ true → heard_of self.old id ≡ None) }
+        ensures put { IfOk result (λ next. next ≡ true → self.new ≡ self.old ++ (id, outcome.now) ∷ []) }
+        ensures other { IfOk result (λ next. next ≡ false → self.new ≡ self.old) }
+    {
+        let _count = self.names.count();
+        if !self.names.is_at(self.outcomes.len(), id) {
+            return Ok(false);
+        }
+        push_copy(&mut self.outcomes, outcome)?;
+        Ok(true)
     }
 
     /// Puts a name behind the others.
