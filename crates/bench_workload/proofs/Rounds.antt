@@ -1,13 +1,24 @@
 -- The lines of the rounds so far, and how many bytes they have.
-use Rattle.std.proofs.Common.{◌≡◌, ℕ, zero, suc, ◌+◌, ◌*◌, ◌%◌, ◌<◌, ◌≤◌, List, [], ◌∷◌, ◌++◌, length, flat_map, sym, ap, ◌∙◌, arith, codes, inl, inr}
+use Rattle.std.proofs.Common.{◌≡◌, ℕ, zero, suc, ◌+◌, ◌*◌, ◌/◌, ◌%◌, ◌<◌, ◌≤◌, List, [], ◌∷◌, ◌++◌, length, flat_map, sym, ap, ◌∙◌, arith, codes, inl, inr}
 use Rattle.std.specs.Prelude.{◌==◌}
 use Rattle.std.specs.Fmt.{decimal}
 use Rattle.std.specs.List.{range_with_len}
 use Rattle.std.proofs.lemmas.Bool.{cases_Bool}
-use Rattle.std.proofs.lemmas.Fmt.{length-decimal-le}
+use Rattle.std.proofs.lemmas.Fmt.{decimal_digit, decimal_step, length-decimal-le}
 use Rattle.std.proofs.lemmas.Grind.{flat_map-append}
 use Rattle.std.proofs.lemmas.List.{append-nil, append_assoc, length-append}
 use Rattle.bench_workload.specs.Workload.{ended, first_lines, flush_lines, line_of_set, lines_of_round, switch_lines, workload_text}
+
+-- ---- a number of one digit or two
+
+pub one_digit : (o p : List ℕ) (n : ℕ) → n < 10 → p ≡ o ++ (48 + n) ∷ [] → p ≡ o ++ decimal n
+one_digit o p n small digit = digit ∙ ap (λ x. o ++ x) (sym (decimal_digit n small))
+
+pub two_digits : (o p q : List ℕ) (n : ℕ) → 10 ≤ n → n < 100 → p ≡ o ++ (48 + n / 10) ∷ [] → q ≡ p ++ (48 + n % 10) ∷ [] → q ≡ o ++ decimal n
+two_digits o p q n large small first second =
+    let both : decimal n ≡ ((48 + n / 10) ∷ []) ++ ((48 + n % 10) ∷ []) =
+    decimal_step n large (omega arith) ∙ ap (λ x. x ++ ((48 + n % 10) ∷ [])) (decimal_digit (n / 10) (omega arith)) in
+    rw (second, first) (append_assoc o ((48 + n / 10) ∷ []) ((48 + n % 10) ∷ []) ∙ ap (λ x. o ++ x) (sym both))
 
 -- ---- one round
 

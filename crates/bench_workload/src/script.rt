@@ -1,8 +1,9 @@
 // The script of the generated workload.
-ghost use Rattle.std.specs.Prelude.{◌≡◌, ◌≤◌, ◌+◌, ◌*◌, ◌++◌, length, flat_map, IfOk, OnOk};
+ghost use Rattle.std.specs.Prelude.{◌≡◌, ◌≤◌, ◌<◌, ◌+◌, ◌*◌, ◌++◌, ◌∷◌, [], length, flat_map, IfOk, OnOk};
+ghost use Rattle.std.specs.Fmt.{decimal};
 ghost use Rattle.bench_workload.specs.Workload.{ended, first_lines, flush_lines, line_of_set, lines_of_round, switch_lines, workload_text};
 
-use sig_base::{NoMemory, put_decimal};
+use sig_base::NoMemory;
 use std::alloc::Global;
 
 // The cells, the computeds over them, the template and its page.
@@ -32,11 +33,34 @@ fn put_first(out: &mut Vec<u8>) -> Result<(), NoMemory>
     put(out, FIRST_LINES.as_bytes())
 }
 
+fn put_digit(out: &mut Vec<u8>, digit: u64) -> Result<(), NoMemory>
+    requires { digit < 10 }
+    ensures { OnOk result (out.new.items ≡ out.old.items ++ (48 + digit) ∷ []) }
+{
+    out.push(b'0' + digit as u8)?;
+    Ok(())
+}
+
+// Puts a number of one digit or two, as `{}` prints it.
+fn put_short(out: &mut Vec<u8>, value: u64) -> Result<(), NoMemory>
+    requires { value < 100 }
+    ensures { OnOk result (out.new.items ≡ out.old.items ++ decimal value) }
+{
+    if value < 10 {
+        put_digit(out, value)?;
+        return Ok(());
+    }
+    put_digit(out, value / 10)?;
+    put_digit(out, value % 10)?;
+    Ok(())
+}
+
 fn put_set(out: &mut Vec<u8>, value: u64) -> Result<(), NoMemory>
+    requires { value < 100 }
     ensures { OnOk result (out.new.items ≡ out.old.items ++ ended (line_of_set value)) }
 {
     put(out, b"set a ")?;
-    put_decimal(out, value)?;
+    put_short(out, value)?;
     put(out, b"\n")
 }
 
@@ -78,7 +102,7 @@ pub fn bench_script(alloc: Global, rounds: u32) -> Result<Vec<u8>, NoMemory>
     ensures text { IfOk result (λ script. script.items ≡ workload_text rounds) }
     ensures short { IfOk result (λ script. length script.items ≤ 148 + 27 * rounds) }
 {
-    let mut script = Vec::new(alloc);
+    let mut script = Vec::with_capacity(alloc, 148 + 27 * rounds as usize)?;
     put_first(&mut script)?;
     for done in 0..rounds {
         put_round(&mut script, done + 1)?;

@@ -3,7 +3,7 @@ use Rattle.bench_workload.proofs.Rounds.{text_more, text_none, text_whole, whole
 use Rattle.bench_workload.proofs.script.bench_script.Goals as goal
 
 pub loop-done-init : goal.loop-done-init
-loop-done-init c = text_none _ _ c.new-script.ensures.items c.in_ok-put_first.ensures
+loop-done-init c = text_none _ _ c.in_ok-script.ensures.items c.in_ok-put_first.ensures
 
 pub loop-done-preserved : goal.loop-done-preserved
 loop-done-preserved c = text_more c.loop-done.done _ _ c.loop-done.invariant c.in_ok-put_round.ensures
