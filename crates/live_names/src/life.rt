@@ -38,6 +38,7 @@ pub fn is_page_among(pages: &[PageId], id: PageId) -> bool
 }
 
 /// Whether a thing lives.
+#[inline(always)]
 pub fn lives(world: &World, thing: &Thing) -> bool
     ensures { (asked : List HostPlace) → result ≡ lives (thing_of thing.now) (whole_of asked world.now) }
 {
@@ -51,6 +52,7 @@ pub fn lives(world: &World, thing: &Thing) -> bool
 }
 
 /// What of a kind can be disposed, by its number.
+#[inline(always)]
 pub(crate) fn thing_of(kind: Kind, number: u128) -> Option<Thing>
     ensures { option_map thing_of result ≡ plain.thing_of kind number }
 {
@@ -65,6 +67,7 @@ pub(crate) fn thing_of(kind: Kind, number: u128) -> Option<Thing>
 }
 
 // Whether a thing was disposed; what can't be was not.
+#[inline(always)]
 fn has_ended(world: &World, thing: Option<Thing>) -> bool
     ensures { (asked : List HostPlace) → result ≡ plain.has_ended (whole_of asked world.now) (option_map thing_of thing) }
 {
@@ -75,6 +78,7 @@ fn has_ended(world: &World, thing: Option<Thing>) -> bool
 }
 
 /// Whether what was made is gone.
+#[inline(always)]
 pub(crate) fn is_gone(world: &World, kind: Kind, number: u128) -> bool
     ensures { (asked : List HostPlace) → result ≡ plain.is_gone (whole_of asked world.now) kind number }
 {

@@ -1,5 +1,5 @@
 // The names that were made.
-ghost use Rattle.std.specs.Prelude.{◌≡◌, ◌++◌, ◌∷◌, [], None, Some, IfSome, OnOk};
+ghost use Rattle.std.specs.Prelude.{◌≡◌, ◌<◌, ◌++◌, ◌∷◌, [], None, Some, IfSome, OnOk};
 ghost use Rattle.std.specs.Option.{option_map_or};
 ghost use Rattle.live_model.specs.Names.{meaning_of, number_of};
 
@@ -7,21 +7,25 @@ use indexmap::IndexMap;
 use live_model::{Kind, Meaning};
 use sig_base::{Name, NoMemory};
 use std::alloc::Global;
+use std::array;
 use std::cell::Cell;
 use std::marker::Model;
 
-/// The names that were made and what they stand for, in order of making, and the place of the one that was found last: a command looks its name up to
-/// be judged and again to be done, and the second time it isn't searched for.
+// So many places of names that were found are kept.
+const KEPT: usize = 16;
+
+/// The names that were made and what they stand for, in order of making, and the places of some that were found last: a command looks its name up to
+/// be judged and again to be done, and scripts say few names again and again, which aren't searched for each time.
 pub struct Names {
     meanings: IndexMap<Name, Meaning>,
-    last: Cell<usize>,
+    found: [Cell<usize>; KEPT],
 }
 
 impl Drop for Names {
     fn drop(self) {
         let Names {
             meanings: _,
-            last: _,
+            found: _,
         } = self;
     }
 }
@@ -44,6 +48,17 @@ pub fn number_meant(meaning: Option<Meaning>) -> u128
     }
 }
 
+// Where the place of a name is kept: it is shared by those that end alike.
+#[inline(always)]
+fn kept_for(name: &Name) -> usize
+    ensures { result < KEPT }
+{
+    match name.as_str().as_bytes().last() {
+        Some(last) => *last as usize % KEPT,
+        None => 0,
+    }
+}
+
 impl Names {
     /// No names.
     pub fn new(alloc: Global) -> Names
@@ -51,15 +66,15 @@ impl Names {
     {
         Names {
             meanings: IndexMap::new(alloc),
-            last: Cell::new(0),
+            found: array::from_fn(|_| Cell::new(0)),
         }
     }
 
-    // What a name stands for, if it is the one that was found last.
+    // What a name stands for, if it is the one that was found last of those that end as it does.
     fn meant_last(&self, name: &Name) -> Option<Meaning>
         ensures { IfSome result (λ m. meaning_of self.now name.now ≡ Some m) }
     {
-        let (known, meaning) = self.meanings.get_index(self.last.get())?;
+        let (known, meaning) = self.meanings.get_index(self.found[kept_for(name)].get())?;
         if known == name {
             return Some(*meaning);
         }
@@ -72,7 +87,7 @@ impl Names {
         ensures { result ≡ meaning_of self.now name.now }
     {
         let (place, _, meaning) = self.meanings.get_full(name)?;
-        self.last.set(place);
+        self.found[kept_for(name)].set(place);
         Some(*meaning)
     }
 
