@@ -41,6 +41,49 @@ fn stands_for(computation: &Computation, slot: u32, signal: NodeId) -> bool
     }
 }
 
+// A count below this isn't nearly the last one, which its upper half tells alone.
+const EARLY: u128 = u128::MAX - u64::MAX as u128;
+
+// The same for a count that is nearly the last one. It stands apart, as hardly any is.
+#[inline(never)]
+fn count_late(looked: &mut u128)
+    ensures { looked.new ≡ counted looked.old }
+{
+    *looked = counted(*looked);
+}
+
+/// Counts one step more.
+#[inline(always)]
+pub(crate) fn count(looked: &mut u128)
+    ensures { looked.new ≡ counted looked.old }
+{
+    if *looked < EARLY {
+        *looked += 1;
+        return;
+    }
+    count_late(looked);
+}
+
+// So many more, up to a count that is nearly the last one. It stands apart, as hardly any is.
+#[inline(never)]
+fn count_late_by(looked: &mut u128, more: usize)
+    ensures { looked.new ≤ looked.old + more }
+{
+    *looked = looked.saturating_add(more as u128);
+}
+
+/// Counts so many steps more at most.
+#[inline(always)]
+pub(crate) fn count_by(looked: &mut u128, more: usize)
+    ensures { looked.new ≤ looked.old + more }
+{
+    if *looked < EARLY {
+        *looked += more as u128;
+        return;
+    }
+    count_late_by(looked, more);
+}
+
 impl Graph {
     // Begins the evaluation of a computed, and tells whether it is stale.
     #[inline(always)]
@@ -80,7 +123,7 @@ impl Graph {
         ensures seats { self.new.seats ≡ self.old.seats }
     {
         let stale = self.begun_stale(id);
-        self.looked = counted(self.looked);
+        count(&mut self.looked);
         stale
     }
 
@@ -100,7 +143,7 @@ impl Graph {
         ensures seats { OnOk result (self.new.seats ≡ self.old.seats) }
     {
         let _count = self.nodes.made();
-        self.looked = counted(self.looked);
+        count(&mut self.looked);
         let answer = ask_at(self.alloc, &mut self.nodes, id, known, outcome)?;
         Ok(answer)
     }
@@ -200,7 +243,7 @@ impl Graph {
     {
         match compared_at(&self.nodes, id, place) {
             Some(moved) => {
-                self.looked = counted(self.looked);
+                count(&mut self.looked);
                 moved
             }
             None => false,

@@ -6,7 +6,7 @@ ghost use Rattle.sig_nodes.specs.Answers.{mark_meant};
 ghost use Rattle.sig_graph.specs.Looks.{is_clean_mark};
 ghost use Rattle.sig_graph.specs.States.{with_look, Becomes};
 
-use crate::evaluation::counted;
+use crate::evaluation::count;
 use crate::graph::Graph;
 use crate::marks::is_due;
 use crate::search::{finds_below, told_clean};
@@ -100,7 +100,7 @@ impl Graph {
         ensures seats { self.new.seats ≡ self.old.seats }
     {
         let clean = self.has_clean_mark(id);
-        self.looked = counted(self.looked);
+        count(&mut self.looked);
         clean
     }
 }

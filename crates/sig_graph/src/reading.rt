@@ -14,7 +14,7 @@ ghost use Rattle.sig_formula.specs.Trees as trees;
 ghost use Rattle.sig_formula.specs.Trees.{binary, tree};
 ghost use Rattle.signal_model.specs.Recipes as recipes;
 
-use crate::evaluation::counted;
+use crate::evaluation::{count, count_by};
 use sig_base::{Known, NoMemory, NodeId, Outcome, Value};
 use sig_formula::{
     BinOp, Formula, Part, Told, decides, first_part, next_part, operate_numbers, part_decided,
@@ -77,9 +77,10 @@ fn ready_value<'a>(nodes: &'a Nodes, marks: &Marks, id: NodeId) -> Option<&'a Va
     }
 }
 
-// A slot is known, and its signal was read. Without memory neither is.
-#[inline(always)]
-fn learn(
+// A slot is known, and its signal was read, where there may be no room for that. It stands apart, as mostly there is room. Without memory
+// neither is.
+#[inline(never)]
+fn learn_more(
     known: &mut Vec<Known>,
     reads: &mut Vec<NodeId>,
     slot: u32,
@@ -94,6 +95,28 @@ fn learn(
     reads.reserve(1)?;
     known.push_reserved(Known { slot, value });
     reads.push_reserved(id);
+    Ok(())
+}
+
+// A slot is known, and its signal was read. Without memory neither is.
+#[inline(always)]
+fn learn(
+    known: &mut Vec<Known>,
+    reads: &mut Vec<NodeId>,
+    slot: u32,
+    value: Value,
+    id: NodeId,
+) -> Result<(), NoMemory>
+    ensures known { OnOk result (known.new.items ≡ known.old.items ++ (record { slot = slot; value = value }) ∷ []) }
+    ensures reads { OnOk result (reads.new.items ≡ reads.old.items ++ id ∷ []) }
+    ensures even { length known.new.items + length reads.old.items ≡ length known.old.items + length reads.new.items }
+{
+    if known.len() < known.capacity() && reads.len() < reads.capacity() {
+        known.push_reserved(Known { slot, value });
+        reads.push_reserved(id);
+        return Ok(());
+    }
+    learn_more(known, reads, slot, value, id)?;
     Ok(())
 }
 
@@ -181,10 +204,10 @@ fn read_anew(
     for _ in 0..computation.slots().len() + 1 {
         match read_next(nodes, marks, computation, known, reads, outcome)? {
             Onward::Read => {
-                *looked = counted(*looked);
+                count(looked);
             }
             Onward::Ended => {
-                *looked = counted(*looked);
+                count(looked);
                 return Ok(Reached::Ended);
             }
             Onward::Left => return Ok(Reached::Left),
@@ -202,7 +225,7 @@ fn slot_left(computation: &Computation, slot: u32, looked: &mut u128) -> Reached
     let Some(_id) = computation.slot(slot) else {
         return Reached::Left;
     };
-    *looked = counted(*looked);
+    count(looked);
     Reached::Needs(slot)
 }
 
@@ -453,13 +476,6 @@ fn walk(
     }
 }
 
-// So many counted steps more.
-fn counted_by(looked: u128, more: usize) -> u128
-    ensures { result ≤ looked + more }
-{
-    looked.saturating_add(more as u128)
-}
-
 /// Goes on with the evaluation of a formula as long as the slot that it needs next is read at once, and tells what it comes to: where that
 /// is its end, its outcome stands in its place. Each answer that it goes on with, or that it tells, is a counted step.
 #[inline(always)]
@@ -479,10 +495,10 @@ pub(crate) fn read_slots(
 {
     let before = known.len();
     let walked = walk(nodes, marks, computation, known, reads, outcome)?;
-    *looked = counted_by(*looked, known.len() - before);
+    count_by(looked, known.len() - before);
     match walked {
         Walked::Ended => {
-            *looked = counted(*looked);
+            count(looked);
             Ok(Reached::Ended)
         }
         Walked::Left(slot) => Ok(slot_left(computation, slot, looked)),

@@ -11,7 +11,7 @@ ghost use Rattle.sig_graph.specs.Places.{KeepsFound};
 ghost use Rattle.sig_graph.specs.SourceLooks.{named, HasNextPlace, IsLookHere, IsSourceLook};
 ghost use Rattle.sig_graph.specs.States.{with_look, Becomes};
 
-use crate::evaluation::counted;
+use crate::evaluation::count;
 use crate::graph::Graph;
 use sig_base::NodeId;
 use sig_marks::Marks;
@@ -194,6 +194,6 @@ impl Graph {
         ensures seats { self.new.seats ≡ self.old.seats }
     {
         let _count = self.nodes.made();
-        self.looked = counted(self.looked);
+        count(&mut self.looked);
     }
 }

@@ -17,7 +17,7 @@ loop-preserved c =
     let even = c.loop.invariant.even in
     let more = c.in_ok-read_next.ensures.even in
     let steps = c.loop.invariant.steps in
-    let step : c.counted.result ≤ c.loop.looked + 1 = subst (λ n. n ≤ c.loop.looked + 1) (sym c.counted.ensures) (counted_most c.loop.looked) in
+    let step : c.count.new.looked ≤ c.loop.looked + 1 = subst (λ n. n ≤ c.loop.looked + 1) (sym c.count.ensures) (counted_most c.loop.looked) in
     let one : length known' ≡ length known + 1 = ap length next.knows ∙ length-append known (next.read.known ∷ []) in
     record {
       read = read_more xs marked r c.args.known.now.items known known' c.args.reads.now.items reads reads' c.loop.invariant.read next;

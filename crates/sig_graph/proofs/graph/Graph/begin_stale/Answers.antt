@@ -9,7 +9,7 @@ returns-clause-after c =
     let g = c.self.inside.generation in
     let w = c.self.inside.worn in
     record {
-      state = ap (λ l. state_of xs g l w) c.counted-self-inside.ensures ∙ ap (λ (s : Seen). with_look s.state) c.self.view_is ∙ ap with_look c.begun_stale-stale.ensures.after.state;
+      state = ap (λ l. state_of xs g l w) c.count.ensures ∙ ap (λ (s : Seen). with_look s.state) c.self.view_is ∙ ap with_look c.begun_stale-stale.ensures.after.state;
       given = ap (λ (s : Seen). s.given) c.self.view_is ∙ c.begun_stale-stale.ensures.after.given;
     }
 

@@ -27,9 +27,9 @@ returns-in-Some-clause-after c =
     let w = c.self.inside.worn in
     let s = c.args.self.now.state in
     let calm = sym (ap (λ (z : Seen). holds_cycle z.state.memos c.args.id) c.self.view_is) ∙ ap memo_is_cycle (memo_found xs g c.args.id) ∙ c.in-Some.ensures.calm in
-    became c.args.self.now (state_of xs g c.self.inside.looked w) (state_of xs g c.counted-self-inside.result w) (if holds_cycle s.memos c.args.id then s else with_look s) c.self.inside.seats.holders c.self.inside.seats.holders (length xs) (length xs)
+    became c.args.self.now (state_of xs g c.self.inside.looked w) (state_of xs g c.count.new.looked w) (if holds_cycle s.memos c.args.id then s else with_look s) c.self.inside.seats.holders c.self.inside.seats.holders (length xs) (length xs)
     c.self.view_is refl
-    (ap (λ l. state_of xs g l w) c.counted-self-inside.ensures ∙ ap (λ (z : Seen). with_look z.state) c.self.view_is ∙ sym (ap (λ b. if b then s else with_look s) calm))
+    (ap (λ l. state_of xs g l w) c.count.ensures ∙ ap (λ (z : Seen). with_look z.state) c.self.view_is ∙ sym (ap (λ b. if b then s else with_look s) calm))
 
 pub returns-in-Some-clause-seats : goal.returns-in-Some-clause-seats
 returns-in-Some-clause-seats c = ap (λ (s : Seen). s.seats) c.self.view_is

@@ -9,9 +9,9 @@ returns-clause-after c =
     let xs = c.self.inside.nodes.items in
     let g = c.self.inside.generation in
     let w = c.self.inside.worn in
-    became c.args.self.now (state_of xs g c.self.inside.looked w) (state_of xs g c.counted-self-inside.result w) (with_look c.args.self.now.state)
+    became c.args.self.now (state_of xs g c.self.inside.looked w) (state_of xs g c.count.new.looked w) (with_look c.args.self.now.state)
     c.self.inside.seats.holders c.self.inside.seats.holders (length xs) (length xs) c.self.view_is refl
-    (ap (λ l. state_of xs g l w) c.counted-self-inside.ensures ∙ ap (λ (s : Seen). with_look s.state) c.self.view_is)
+    (ap (λ l. state_of xs g l w) c.count.ensures ∙ ap (λ (s : Seen). with_look s.state) c.self.view_is)
 
 pub returns-clause-seats : goal.returns-clause-seats
 returns-clause-seats c = ap (λ (s : Seen). s.seats) c.self.view_is

@@ -10,8 +10,8 @@ returns-clause-after c =
     let g = c.self.inside.generation in
     let w = c.self.inside.worn in
     let is = c.self.view_is ∙ c.has_clean_mark-clean.ensures.same in
-    became c.args.self.now (state_of xs g c.self.inside.looked w) (state_of xs g c.counted-self-inside.result w) (with_look c.args.self.now.state) c.self.inside.seats.holders c.self.inside.seats.holders (length xs) (length xs)
-    is refl (ap (λ l. state_of xs g l w) c.counted-self-inside.ensures ∙ ap (λ (s : Seen). with_look s.state) is)
+    became c.args.self.now (state_of xs g c.self.inside.looked w) (state_of xs g c.count.new.looked w) (with_look c.args.self.now.state) c.self.inside.seats.holders c.self.inside.seats.holders (length xs) (length xs)
+    is refl (ap (λ l. state_of xs g l w) c.count.ensures ∙ ap (λ (s : Seen). with_look s.state) is)
 
 pub returns-clause-seats : goal.returns-clause-seats
 returns-clause-seats c = ap (λ (s : Seen). s.seats) (c.self.view_is ∙ c.has_clean_mark-clean.ensures.same)

@@ -52,12 +52,12 @@ returns-clause-after c =
     let g = c.self.inside.generation in
     let l = c.self.inside.looked in
     let w = c.self.inside.worn in
-    let n = c.counted-self-inside.result in
+    let n = c.count.new.looked in
     let known = Some c.args.known.now in
     let nodes = c.in_ok-answer.ensures.kept ∙ ap (λ (k : Option (List Known)). changed_at (known_node k) c.args.id c.self.inside.nodes.items) c.in_ok-answer.ensures.noted in
     let len = ap length nodes ∙ changed_length (known_node known) c.args.id xs in
     became c.args.self.now (state_of xs g l w) (state_of ys g n w) (with_look (with_progress c.args.self.now.state c.args.id known)) c.self.inside.seats.holders c.self.inside.seats.holders (length xs) (length ys) c.self.view_is len
-    (ap (λ zs. state_of zs g n w) nodes ∙ known_state xs c.args.id known g n w ∙ ap (λ m. with_progress (state_of xs g m w) c.args.id known) c.counted-self-inside.ensures
+    (ap (λ zs. state_of zs g n w) nodes ∙ known_state xs c.args.id known g n w ∙ ap (λ m. with_progress (state_of xs g m w) c.args.id known) c.count.ensures
     ∙ ap (λ (s : Seen). with_look (with_progress s.state c.args.id known)) c.self.view_is)
 
 pub returns-clause-seats : goal.returns-clause-seats
