@@ -1,5 +1,5 @@
 // Which marks go at the end of an evaluation.
-ghost use Rattle.std.specs.Prelude.{◌≡◌, ℕ, ◌<◌, ◌&&◌, ◌||◌, ◌++◌, ◌∷◌, not, [], length, map, true, false, IfOk, OnOk};
+ghost use Rattle.std.specs.Prelude.{◌≡◌, ℕ, ◌+◌, ◌<◌, ◌&&◌, ◌||◌, ◌++◌, ◌∷◌, not, [], length, map, true, false, vec_capacity, vec_len, IfOk, OnOk};
 ghost use Rattle.signal_model.specs.Memos.{is_cycle};
 ghost use Rattle.mark_laws.specs.Marked.{ended};
 ghost use Rattle.sig_marks.specs.Tables.{marked_at, stands_at};
@@ -36,20 +36,19 @@ fn some_marked(nodes: &Nodes, marks: &Marks, ids: &[NodeId]) -> bool
     false
 }
 
-// Puts the change number of a signal behind others, none where it is gone, and tells whether a marked computed stands there.
+// Puts the change number of a signal behind others, in room that is there, none where it is gone, and tells whether a marked computed stands
+// there.
 #[inline(always)]
-fn look_at(
-    numbers: &mut Vec<Option<u128>>,
-    nodes: &Nodes,
-    marks: &Marks,
-    id: NodeId,
-) -> Result<bool, NoMemory>
-    ensures number { OnOk result (numbers.new.items ≡ numbers.old.items ++ number_at nodes.now.items id ∷ []) }
-    ensures marked { IfOk result (λ m. m ≡ (is_computed_body (body_at nodes.now.items id) && marked_at marks.now.marked id)) }
+fn look_at(numbers: &mut Vec<Option<u128>>, nodes: &Nodes, marks: &Marks, id: NodeId) -> bool
+    requires { vec_len numbers.old < vec_capacity numbers.old }
+    ensures number { numbers.new.items ≡ numbers.old.items ++ number_at nodes.now.items id ∷ [] }
+    ensures len { vec_len numbers.new ≡ vec_len numbers.old + 1 }
+    ensures capacity { vec_capacity numbers.new ≡ vec_capacity numbers.old }
+    ensures marked { result ≡ (is_computed_body (body_at nodes.now.items id) && marked_at marks.now.marked id) }
 {
     let (number, computed) = read_at(nodes, id);
-    numbers.push(number)?;
-    Ok(computed && marks.is_marked(id))
+    numbers.push_reserved(number);
+    computed && marks.is_marked(id)
 }
 
 // Whether one of two holds. Both are known, so that it takes no branch.
@@ -74,7 +73,7 @@ pub(crate) fn look_over(
     numbers.reserve_exact(ids.len())?;
     let mut marked = false;
     for id in ids {
-        let here = look_at(numbers, nodes, marks, *id)?;
+        let here = look_at(numbers, nodes, marks, *id);
         marked = either(marked, here);
     }
     Ok(marked)
