@@ -1,5 +1,5 @@
 -- What is kept of one computed.
-use Rattle.std.specs.Prelude.{ℕ, List, [], ◌∷◌, Option, false, ◌≡◌, length, take, Some, None}
+use Rattle.std.specs.Prelude.{ℕ, Bool, List, [], ◌∷◌, Option, false, ◌≡◌, length, take, Some, None, if◌then◌else◌}
 use Rattle.sig_base.specs.declared.value.Known.{Known}
 use Rattle.sig_base.specs.declared.value.Outcome.{Outcome}
 use Rattle.signal_model.specs.Recipes.{Expression, Recipe}
@@ -29,6 +29,10 @@ recipe_made e slots = record { expression = e; slots = slots }
 -- a generation, in which nothing is kept
 abbrev pub at_generation : ℕ → Memos
 at_generation generation = record { generation = generation; entries = [] }
+
+-- what a recipe was asked with in an evaluation that is under way: nothing until it was asked
+abbrev pub known_so_far : Bool → List Known → List Known
+known_so_far asked known = if asked then known else []
 
 -- whether an evaluation that is under way goes on with these values: they begin with those that its recipe was last asked with
 abbrev pub GoesOn : Option (List Known) → List Known → Type 0

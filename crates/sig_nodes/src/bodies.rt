@@ -239,6 +239,7 @@ pub fn sources_at(nodes: &Nodes, id: NodeId) -> &[NodeId]
 }
 
 // The change number of a signal, none where it is gone.
+#[inline(always)]
 fn number_at(nodes: &Nodes, id: NodeId) -> Option<u128>
     ensures { result ≡ number_at nodes.now.items id }
 {
@@ -248,6 +249,7 @@ fn number_at(nodes: &Nodes, id: NodeId) -> Option<u128>
     }
 }
 
+#[inline(always)]
 fn number_of(node: &Node) -> Option<u128>
     ensures { result ≡ number_body node.now.number node.now.body }
 {
@@ -270,6 +272,7 @@ pub fn read_at(nodes: &Nodes, id: NodeId) -> (Option<u128>, bool)
 }
 
 /// Whether two change numbers, none of what is gone, are the same.
+#[inline(always)]
 pub(crate) fn same_number(a: Option<u128>, b: Option<u128>) -> bool
     ensures { result ≡ same_number a b }
 {
@@ -281,6 +284,7 @@ pub(crate) fn same_number(a: Option<u128>, b: Option<u128>) -> bool
 }
 
 /// Whether a source has another number than the one that was read.
+#[inline(always)]
 pub fn differs(nodes: &Nodes, source: Source) -> bool
     ensures { result ≡ not (same_number (number_at nodes.now.items source.name) source.number) }
 {
@@ -288,6 +292,7 @@ pub fn differs(nodes: &Nodes, source: Source) -> bool
 }
 
 /// Whether a node has another number than the one that was read of it, or is computing.
+#[inline(always)]
 pub(crate) fn node_moved(node: &Node, number: Option<u128>) -> bool
     ensures { result ≡ (not (same_number (number_body node.now.number node.now.body) number) || is_some (known_body node.now.body)) }
 {

@@ -9,6 +9,7 @@ use crate::node::{Node, Source};
 
 impl Source {
     /// Whether it has another number than the one that was read, or is computing, by its node.
+    #[inline(always)]
     pub fn has_moved(&self, node: &Node) -> bool
         ensures { (xs : List Node) → slice_get xs self.now.name ≡ Some node.now → result ≡ has_moved_body xs (Some self.now) }
     {

@@ -9,9 +9,10 @@ ghost use Rattle.signal_model.specs.Memos.{is_cycle, is_stale_by, memo_is_cycle,
 ghost use Rattle.signal_model.specs.Sound.{kept_outcome};
 ghost use Rattle.signal_model.specs.Settling.{has_outcome};
 ghost use Rattle.signal_model.specs.Changes.{memo_rewired};
-ghost use Rattle.sig_nodes.specs.Computations.{GoesOn, at_generation, paired, recipe_made, renewed};
+ghost use Rattle.sig_nodes.specs.Computations.{GoesOn, at_generation, known_so_far, paired, recipe_made, renewed};
 ghost use Rattle.sig_nodes.specs.Answers.{expression_of, host_place, IsAnswerOf, IsJudgedAnswer, IsStepAnswer};
-ghost use Rattle.sig_nodes.specs.Pauses.{IsHeldOf};
+ghost use Rattle.sig_nodes.specs.Pauses.{IsHeld, IsHeldOf};
+ghost use Rattle.sig_nodes.specs.declared.answers.Recipe.{Recipe};
 ghost use Rattle.sig_nodes.specs.Reading.{IsToldOf};
 ghost use Rattle.sig_base.specs.declared.value.Outcome.TheVariants.{Good};
 ghost use Rattle.sig_base.specs.declared.value.Known.{Known};
@@ -22,7 +23,7 @@ ghost use Rattle.sig_formula.specs.declared.formula.RowRef.{RowRef};
 ghost use Rattle.sig_formula.specs.Trees.{tree};
 
 use crate::answers::{Asked, Recipe};
-use crate::id_lists::IdList;
+use crate::id_lists::{IdList, Slots};
 use sig_base::{Fault, Known, NoMemory, NodeId, Outcome, Step, Value};
 use sig_formula::{Formula, Paused, Told, told_at_once};
 use signal_model::judged;
@@ -51,11 +52,11 @@ impl Model for Source {
 /// whether the computed was rewired since.
 #[derive(Drop)]
 pub struct Memo {
-    outcome: Outcome,
     sources: IdList,
+    rewired: bool,
+    outcome: Outcome,
     numbers: Vec<Option<u128>>,
     generation: u128,
-    rewired: bool,
 }
 
 impl Model for Memo {
@@ -87,11 +88,11 @@ impl Memo {
         ensures { result ≡ record { outcome = outcome; sources = paired sources.items numbers.items; generation = generation; rewired = false } }
     {
         Memo {
-            outcome,
             sources,
+            rewired: false,
+            outcome,
             numbers,
             generation,
-            rewired: false,
         }
     }
 
@@ -114,6 +115,7 @@ impl Memo {
         are_same(self.sources(), names)
     }
 
+    #[inline(always)]
     fn source(&self, place: usize) -> Option<Source>
         ensures { result ≡ slice_get self.now.sources place }
     {
@@ -128,6 +130,7 @@ impl Memo {
         }
     }
 
+    #[inline(always)]
     fn is_stale(&self, generation: u128) -> bool
         ensures { result ≡ is_stale_by (at_generation generation) (Some self.now) }
     {
@@ -229,6 +232,7 @@ fn put_outcome(held: &mut Outcome, number: &mut u128, outcome: &Outcome) -> Resu
 }
 
 /// Whether an outcome is the fault `cycle`.
+#[inline(always)]
 pub fn is_cycle(outcome: &Outcome) -> bool
     ensures { result ≡ is_cycle outcome.now }
 {
@@ -243,10 +247,12 @@ pub fn is_cycle(outcome: &Outcome) -> bool
 #[derive(Drop)]
 pub struct Computation {
     // what others look at stands together in front, as nodes are many and each is looked at often
-    memo: Option<Memo>,
     computing: bool,
+    // whether the recipe was asked since the evaluation began: until then what is known, and what is held, are of an earlier one
+    asked: bool,
+    memo: Option<Memo>,
     recipe: Recipe,
-    slots: Vec<NodeId>,
+    slots: Slots,
     known: Vec<Known>,
     // none before the first answer by a list of instructions, and for a host formula; it is kept from one run to the next, in a box as it is
     // taken out and put back
@@ -257,7 +263,7 @@ impl Model for Computation {
     ghost use Rattle.std.specs.Prelude.{Some, None, if◌then◌else◌};
     ghost use Rattle.sig_formula.specs.Codes.{tree_code};
     ghost use Rattle.std.specs.Coded.{codes};
-    ghost use Rattle.sig_nodes.specs.Computations.{Computation, recipe_made};
+    ghost use Rattle.sig_nodes.specs.Computations.{Computation, known_so_far, recipe_made};
 
     ghost Value = { Computation };
 
@@ -270,7 +276,7 @@ impl Model for Computation {
     ghost view = { λ c. record {
       recipe = recipe_made (expression_of c.recipe) c.slots.items;
       memo = c.memo;
-      known = (if c.computing then Some c.known.items else None);
+      known = (if c.computing then Some (known_so_far c.asked c.known.items) else None);
     } };
 
     ghost invariant = { λ c. IsHeld c.paused c.recipe c.known.items };
@@ -282,10 +288,11 @@ impl Computation {
         ensures { result ≡ record { recipe = recipe_made (expression_of recipe) slots.items; memo = None; known = None } }
     {
         Computation {
-            memo: None,
             computing: false,
+            asked: false,
+            memo: None,
             recipe,
-            slots,
+            slots: Slots::of(slots),
             known: Vec::new(alloc),
             paused: None,
         }
@@ -302,7 +309,7 @@ impl Computation {
     pub fn slot(&self, slot: u32) -> Option<NodeId>
         ensures { result ≡ slice_get self.now.recipe.slots slot }
     {
-        self.slots.get(slot as usize).copied()
+        self.slots.as_slice().get(slot as usize).copied()
     }
 
     /// The place of the host formula that the recipe asks.
@@ -332,6 +339,7 @@ impl Computation {
     }
 
     /// The source at a place of the run that it keeps, with the number that was read.
+    #[inline(always)]
     pub fn source(&self, place: usize) -> Option<Source>
         ensures { result ≡ slice_get (sources_in self.now.memo) place }
     {
@@ -342,6 +350,7 @@ impl Computation {
     }
 
     /// Whether it has to run whatever its sources are, in this generation.
+    #[inline(always)]
     pub fn is_stale(&self, generation: u128) -> bool
         ensures { result ≡ is_stale_by (at_generation generation) self.now.memo }
     {
@@ -352,6 +361,7 @@ impl Computation {
     }
 
     /// Whether the memo is the fault `cycle`.
+    #[inline(always)]
     pub fn holds_cycle(&self) -> bool
         ensures { result ≡ memo_is_cycle self.now.memo }
     {
@@ -422,16 +432,14 @@ impl Computation {
     pub fn slots(&self) -> &[NodeId]
         ensures { result.now ≡ self.now.recipe.slots }
     {
-        &self.slots
+        self.slots.as_slice()
     }
 
+    #[inline(always)]
     pub(crate) fn begin(&mut self)
         ensures { self.new ≡ record self.old { known = Some [] } }
     {
-        empty(&mut self.known);
-        if let Some(paused) = &mut self.paused {
-            paused.restart();
-        }
+        self.asked = false;
         self.computing = true;
     }
 
@@ -455,13 +463,15 @@ impl Computation {
         ensures answer { IfOk result (λ a. IsAnswerOf self.old.recipe known.now a outcome.new) }
         ensures judged { IfOk result (λ a. IsJudgedAnswer (length self.old.recipe.slots) known.now a) }
     {
+        forget_earlier(self.asked, &mut self.known, &mut self.paused);
+        self.asked = true;
         let mut held = self.paused.take();
         note_rest(&mut self.known, known)?;
         match &self.recipe {
             Recipe::Formula(formula) => {
                 let slot = asked(alloc, formula, &mut held, known, outcome)?;
                 self.paused = held;
-                Ok(judged_answer(self.slots.len(), known, slot, outcome))
+                Ok(judged_answer(self.slots.as_slice().len(), known, slot, outcome))
             }
             Recipe::Host(place) => Ok(Asked::Host(*place)),
         }
@@ -512,7 +522,7 @@ impl Computation {
         ensures { self.new ≡ record self.old { recipe = recipe_made (expression_of recipe) slots.items; memo = memo_rewired self.old.memo } }
     {
         self.recipe = recipe;
-        self.slots = slots;
+        self.slots = Slots::of(slots);
         self.paused = None; // it stood in the former recipe
         if let Some(memo) = &mut self.memo {
             memo.mark_rewired();
@@ -539,15 +549,25 @@ pub struct Node {
     pub body: Body,
 }
 
-// Empties a list of values. Most are empty before.
-#[inline(always)]
-fn empty(known: &mut Vec<Known>)
-    ensures { known.new.items ≡ [] }
+// An evaluation that is held begins anew.
+fn restart(held: &mut Option<Box<Paused>>)
+    ensures { (r : Recipe) (known : List Known) → IsHeld held.old r known → IsHeld held.new r [] }
 {
-    if known.is_empty() {
+    if let Some(paused) = held {
+        paused.restart();
+    }
+}
+
+// Leaves what an earlier evaluation knew, and begins what is held anew, unless the recipe was asked in this one.
+fn forget_earlier(asked: bool, known: &mut Vec<Known>, held: &mut Option<Box<Paused>>)
+    ensures known { known.new.items ≡ known_so_far asked known.old.items }
+    ensures held { (r : Recipe) → IsHeld held.old r known.old.items → IsHeld held.new r known.new.items }
+{
+    if asked {
         return;
     }
     known.clear();
+    restart(held);
 }
 
 // Puts the values behind those that are there.

@@ -140,6 +140,7 @@ pub fn rewire_at(nodes: &mut Nodes, id: NodeId, recipe: Recipe, slots: Vec<NodeI
 }
 
 // Begins the evaluation of a computed's node, and tells whether it has to run whatever its sources are.
+#[inline(always)]
 fn begin(node: &mut Node, generation: u128) -> bool
     requires { is_computed_body node.old.body ≡ true }
     ensures node { node.new ≡ known_node (Some []) node.old }
@@ -155,6 +156,7 @@ fn begin(node: &mut Node, generation: u128) -> bool
 }
 
 /// Begins the evaluation of a computed, and tells whether it has to run whatever its sources are.
+#[inline(always)]
 pub fn begin_at(nodes: &mut Nodes, generation: u128, id: NodeId) -> bool
     requires { is_computed_body (body_at nodes.old.items id) ≡ true }
     ensures nodes { nodes.new.items ≡ changed_at (known_node (Some [])) id nodes.old.items }
