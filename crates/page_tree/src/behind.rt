@@ -2,35 +2,33 @@
 
 use std::cell::Cell;
 
-// No place.
-const NOWHERE: usize = usize::MAX;
-
-/// The place of the node that was looked for behind another one the last time, if one was.
+/// How far behind another node the one stood that was looked for behind it the last time: at the next place, where none was.
 #[derive(Drop)]
 pub struct Behind {
-    place: Cell<usize>,
+    step: Cell<usize>,
 }
 
 impl Behind {
     /// None was looked for.
     pub(crate) fn new() -> Behind {
-        Behind {
-            place: Cell::new(NOWHERE),
-        }
+        Behind { step: Cell::new(1) }
     }
 
-    /// Where it is likely, if the one before it stands at a place: where it was found, or at the next place.
+    /// Where it is likely, if the one before it stands at a place.
+    #[inline]
     pub(crate) fn likely(&self, place: usize) -> usize {
-        let found = self.place.get();
-        if found == NOWHERE {
-            place.wrapping_add(1)
-        } else {
-            found
-        }
+        place.wrapping_add(self.step.get())
     }
 
-    /// It was found at a place.
-    pub(crate) fn note(&self, place: usize) {
-        self.place.set(place);
+    /// The one before it stands at a place, and it was found at another.
+    pub(crate) fn note(&self, place: usize, found: usize) {
+        self.step.set(found.wrapping_sub(place));
     }
+}
+
+/// Where a node is looked for first: the place of the one before it, and the place that is likely behind that.
+#[derive(Clone, Copy)]
+pub struct Spot {
+    pub near: usize,
+    pub likely: usize,
 }

@@ -7,7 +7,7 @@ ghost use Rattle.page_model.specs.Replay.{others, put_in};
 ghost use Rattle.page_tree.specs.Queries as reading;
 ghost use Rattle.page_tree.specs.Rows.{Row, attributes_of, edited, label_of, look, row_of, with_attributes, with_children, with_label, written};
 
-use crate::behind::Behind;
+use crate::behind::{Behind, Spot};
 use crate::element_name::ElementName;
 use crate::text_node::TextNode;
 use indexmap::IndexMap;
@@ -156,31 +156,32 @@ pub fn find_at(nodes: &IndexMap<u64, Node>, place: usize, id: u64) -> Option<(us
     Some((place, node))
 }
 
-// The likely place of the node that is looked for behind the one at a place.
-fn place_behind(nodes: &IndexMap<u64, Node>, near: usize) -> usize {
-    match nodes.get_index(near) {
-        Some((_, node)) => node.behind.likely(near),
-        None => near,
+/// Where a node is looked for behind this one, which stands at a place.
+#[inline]
+pub fn spot_behind(place: usize, node: &Node) -> Spot {
+    Spot {
+        near: place,
+        likely: node.behind.likely(place),
     }
 }
 
-// Notes where the node was found that was looked for behind the one at a place.
+// Notes where the node was found that was looked for behind the one at a place. It stands apart, as most stand where they are likely.
+#[inline(never)]
 fn note_behind(nodes: &IndexMap<u64, Node>, near: usize, place: usize) {
     if let Some((_, node)) = nodes.get_index(near) {
-        node.behind.note(place);
+        node.behind.note(near, place);
     }
 }
 
-/// A node by its number, and its place in the table; it is looked for first where one was found behind the one at a place before.
-pub fn find_near(nodes: &IndexMap<u64, Node>, near: usize, id: u64) -> Option<(usize, &Node)>
+/// A node by its number, and its place in the table; it is looked for first where it is likely, and where it is found is noted.
+pub fn find_near(nodes: &IndexMap<u64, Node>, spot: Spot, id: u64) -> Option<(usize, &Node)>
     ensures { option_map (λ p. p.1.now) result ≡ get nat_eq nodes.now id }
 {
-    let likely = place_behind(nodes, near);
-    let Some((place, node)) = find_at(nodes, likely, id) else {
+    let Some((place, node)) = find_at(nodes, spot.likely, id) else {
         return None;
     };
-    if place != likely {
-        note_behind(nodes, near, place);
+    if place != spot.likely {
+        note_behind(nodes, spot.near, place);
     }
     Some((place, node))
 }

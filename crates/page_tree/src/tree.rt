@@ -19,7 +19,7 @@ use crate::moves::{insert_rows, move_node, remove_node};
 use crate::numbers::put_number;
 use crate::sub::{Sub, put_rows};
 use crate::table::{
-    Label, Node, add_row, find_at, place_in, place_named, set_attribute, set_label,
+    Label, Node, add_row, find_at, place_in, place_named, set_attribute, set_label, spot_behind,
     unset_attribute, value_named,
 };
 use crate::text_node::TextNode;
@@ -153,10 +153,11 @@ impl Tree {
     pub fn write_html(&self, out: &mut Vec<u8>) -> Result<(), NoMemory>
         ensures { OnOk result (out.new.items ≡ out.old.items ++ html_of self.now) }
     {
-        let Some(root) = self.nodes.get(&0) else {
+        let Some((place, root)) = find_at(&self.nodes, 0, 0) else {
             return Ok(());
         };
-        let _ = write_nodes(out, &self.nodes, &root.children, false, 32, 0)?;
+        let first = spot_behind(place, root);
+        let _ = write_nodes(out, &self.nodes, &root.children, false, 32, first)?;
         Ok(())
     }
 
