@@ -6,7 +6,7 @@ ghost use Rattle.html_out.specs.Html.{attribute, escaped, escaped_value, in_text
 use sig_base::NoMemory;
 
 // So many bytes are put one by one, which takes less than to copy them at once.
-const FEW: usize = 4;
+const FEW: usize = 8;
 
 // Appends bytes one by one, for which there is room.
 fn put_few(out: &mut Vec<u8>, bytes: &[u8])
