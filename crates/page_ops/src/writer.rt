@@ -7,22 +7,16 @@ ghost use Rattle.page_tree.specs.Subs.{insertion, sub_tree};
 ghost use Rattle.page_ops.specs.Ops.{op_of, opened};
 
 use crate::op::Op;
+use html_out::put_bytes;
 use page_tree::Sub;
 use sig_base::{NoMemory, Text, put_decimal, put_quoted};
-
-fn put(out: &mut Vec<u8>, bytes: &[u8]) -> Result<(), NoMemory>
-    ensures { OnOk result (out.new.items ≡ out.old.items ++ bytes.now) }
-{
-    out.extend_from_slice(bytes)?;
-    Ok(())
-}
 
 // A word, and a number behind it.
 fn put_number(out: &mut Vec<u8>, before: &[u8], number: u64) -> Result<(), NoMemory>
     ensures text { OnOk result (out.new.items ≡ out.old.items ++ (before.now ++ decimal number)) }
     ensures sized { IsNumber number }
 {
-    put(out, before)?;
+    put_bytes(out, before)?;
     put_decimal(out, number)?;
     Ok(())
 }
@@ -42,7 +36,7 @@ fn put_literal(out: &mut Vec<u8>, text: &Text) -> Result<(), NoMemory>
     ensures text { OnOk result (out.new.items ≡ out.old.items ++ 32 ∷ quoted text.now) }
     ensures sized { OnOk result (IsText text.now) }
 {
-    put(out, b" ")?;
+    put_bytes(out, b" ")?;
     put_text(out, text)?;
     Ok(())
 }
@@ -51,8 +45,8 @@ fn put_literal(out: &mut Vec<u8>, text: &Text) -> Result<(), NoMemory>
 fn put_name(out: &mut Vec<u8>, name: &Text) -> Result<(), NoMemory>
     ensures { OnOk result (out.new.items ≡ out.old.items ++ 32 ∷ name.now) }
 {
-    put(out, b" ")?;
-    put(out, name.as_str().as_bytes())?;
+    put_bytes(out, b" ")?;
+    put_bytes(out, name.as_str().as_bytes())?;
     Ok(())
 }
 
@@ -61,7 +55,7 @@ fn put_attribute(out: &mut Vec<u8>, name: &Text, value: &Text) -> Result<(), NoM
     ensures sized { OnOk result (IsText value.now) }
 {
     put_name(out, name)?;
-    put(out, b"=")?;
+    put_bytes(out, b"=")?;
     put_text(out, value)?;
     Ok(())
 }
@@ -101,7 +95,7 @@ fn put_sub(out: &mut Vec<u8>, sub: &Sub) -> Result<(), NoMemory>
         Sub::Text(number, text) => {
             put_number(out, b" (", *number)?;
             put_literal(out, text)?;
-            put(out, b")")?;
+            put_bytes(out, b")")?;
             Ok(())
         }
         Sub::Element(number, name, attributes, subs) => {
@@ -109,7 +103,7 @@ fn put_sub(out: &mut Vec<u8>, sub: &Sub) -> Result<(), NoMemory>
             for sub in subs {
                 put_sub(out, sub)?;
             }
-            put(out, b")")?;
+            put_bytes(out, b")")?;
             Ok(())
         }
     }
