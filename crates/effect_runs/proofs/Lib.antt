@@ -4,4 +4,6 @@ mod Wanted
 mod Asks
 mod Still
 mod Looks
+mod Cells
+mod Logged
 pub mod Shared

@@ -52,7 +52,7 @@ pub still_none : (hosts : Hosts) (w : Signals) (ss : List Seen) → list_all (is
 still_none hosts w ss h = sym (differs_none hosts w ss h)
 
 -- all of them are looked at
-looked_all : (hosts : Hosts) (w : Signals) (ss : List Seen) → list_all (is_still w) ss ≡ true → looked_at (λ m. value_of hosts w m []) ss ≡ names_of ss
+pub looked_all : (hosts : Hosts) (w : Signals) (ss : List Seen) → list_all (is_still w) ss ≡ true → looked_at (λ m. value_of hosts w m []) ss ≡ names_of ss
 looked_all hosts w [] h = refl
 looked_all hosts w (s ∷ ss) h =
     let both = and_parts (is_still w s) (list_all (is_still w) ss) h in

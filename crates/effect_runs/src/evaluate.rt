@@ -10,6 +10,7 @@ ghost use Rattle.effect_tables.specs.Scripts.{count_of};
 ghost use Rattle.effect_runs.specs.Evaluations.{body_seen, HasNames, IsRunOf, IsShort};
 ghost use Rattle.sig_computed.specs.Scenes.{scene, CanSettle, Settles};
 
+use crate::at_once::log_at_once;
 use crate::run::{BodyEnd, BodyRun, Reading};
 use sig_base::{NoMemory, NodeId, Outcome};
 use sig_computed::{RunNote, settle};
@@ -25,14 +26,9 @@ fn slot_name(names: &[NodeId], slot: u32) -> NodeId
     names[slot as usize]
 }
 
-/// Evaluates the body of an effect on the values of its names, one for each slot. It is asked with what it has read, again with each
-/// value that it asks for, until it wants acts done, at most one for each of its statements, or a read or a formula has a fault. Each signal
-/// that it reads is settled at its place, one that is read untracked and later tracked at both.
-///
-/// # Errors
-///
-/// After `NoMemory` graph and shelf may only be dropped.
-pub fn evaluate_body(
+// Evaluates a body that may ask for several slots: it is asked again with each value that it reads, until it wants acts done, or a read or a
+// formula has a fault. Its clauses are those of each body.
+fn ask_on(
     graph: &mut Graph,
     shelf: &mut Shelf,
     body: &Body,
@@ -78,6 +74,44 @@ pub fn evaluate_body(
                 let run = reading.fail(tracked, id, fault)?;
                 return Ok(run);
             }
+        }
+    }
+}
+
+/// Evaluates the body of an effect on the values of its names, one for each slot. It is asked with what it has read, again with each
+/// value that it asks for, until it wants acts done, at most one for each of its statements, or a read or a formula has a fault. Each signal
+/// that it reads is settled at its place, one that is read untracked and later tracked at both. One that logs a cell, and does nothing else, is
+/// read as it stands.
+///
+/// # Errors
+///
+/// After `NoMemory` graph and shelf may only be dropped.
+pub fn evaluate_body(
+    graph: &mut Graph,
+    shelf: &mut Shelf,
+    body: &Body,
+    names: &[NodeId],
+    notes: &mut Vec<RunNote>,
+) -> Result<BodyRun, NoMemory>
+    requires can { CanSettle (scene graph.old (⟦<Shelf as Lent>⟧.asked shelf.old) notes.old.items) }
+    requires counted { ⟦<Shelf as Lent>⟧.counted shelf.old }
+    requires fit { HasNames body.now names.now }
+    ensures run { (hosts : Hosts) (p : Parts) → ⟦<Shelf as Lent>⟧.answers hosts shelf.old → AreKept hosts graph.old.state.signals graph.old.state.memos →
+        IfOk result (IsRunOf p (body_evaluation hosts graph.old.state.signals (body_seen p body.now names.now))) }
+    ensures after { (p : Parts) → OnOk result (Settles
+        (scene graph.old (⟦<Shelf as Lent>⟧.asked shelf.old) notes.old.items) (scene graph.new (⟦<Shelf as Lent>⟧.asked shelf.new) notes.new.items)
+        (λ hosts. ⟦<Shelf as Lent>⟧.answers hosts shelf.old) (λ hosts. ⟦<Shelf as Lent>⟧.answers hosts shelf.new)
+        (λ hosts. names_of (body_evaluation hosts graph.old.state.signals (body_seen p body.now names.now)).reads)) }
+    ensures few { IfOk result (λ r. IsShort (count_of (statements_of (before body.now no_bodies))) r.end) }
+    ensures can { OnOk result (CanSettle (scene graph.new (⟦<Shelf as Lent>⟧.asked shelf.new) notes.new.items)) }
+    ensures counted { OnOk result (⟦<Shelf as Lent>⟧.counted shelf.new) }
+{
+    let at_once = log_at_once(*notes.allocator(), graph, body, names)?;
+    match at_once {
+        Some(logged) => Ok(logged),
+        None => {
+            let run = ask_on(graph, shelf, body, names, notes)?;
+            Ok(run)
         }
     }
 }

@@ -1,6 +1,7 @@
 //! How the body of an effect is evaluated, and when an effect is due.
 #![tactic(auto)]
 
+mod at_once;
 mod due;
 mod evaluate;
 mod run;

@@ -3,8 +3,10 @@
 
 mod body;
 mod evaluate;
+mod logging;
 mod reads;
 
 pub use body::{Act, Body, BodyStep, Recipe2, Rewire, Stmt};
 pub use evaluate::body_step;
+pub use logging::logged_slot;
 pub use reads::{Read, names};

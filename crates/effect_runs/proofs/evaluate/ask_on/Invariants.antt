@@ -3,7 +3,7 @@ use Rattle.signal_model.specs.Values.{unknown_slots}
 use Rattle.sig_host.specs.Hosts.{AnswersBy, IsCounted}
 use Rattle.sig_computed.specs.Scenes.{scene, CanSettle}
 use Rattle.effect_runs.proofs.Asks.{IsAsking}
-use Rattle.effect_runs.proofs.evaluate.evaluate_body.Given as goal
+use Rattle.effect_runs.proofs.evaluate.ask_on.Given as goal
 
 abbrev pub invariant-asking : goal.invariant-asking
 invariant-asking g l = record {
