@@ -3,7 +3,7 @@ use Rattle.std.proofs.Common.{◌≡◌, ◌<◌, ◌+◌, ◌-◌, ℕ, suc, tr
 use Rattle.std.specs.Box.{box_value}
 use Rattle.tpl_model.specs.KeptLines.Changes as model
 use Rattle.tpl_model.specs.KeptLines.Changes.{chain, changed, changed_node, same_before}
-use Rattle.tpl_model.specs.declared.change.Change.TheVariants.{rolls-Stays, rolls-Made, rolls-Over, rolls-Same}
+use Rattle.tpl_model.specs.declared.change.Change.TheVariants.{rolls-Stays, rolls-Made, rolls-Over, rolls-First, rolls-Same}
 use Rattle.tpl_model.specs.declared.change.Change.TheVariants as change
 use Rattle.tpl_model.specs.declared.change.Change.TheOpen.{Change-F}
 use Rattle.tpl_model.specs.declared.change.Change.TheFolds.{fold-roll-Change}
@@ -19,6 +19,10 @@ changed_made = ap changed (sym rolls-Made) ∙ fold-roll-Change model.Change cha
 pub changed_over : (same inside later : _) → changed (change.Over same inside later) ≡ model.over same (chain (map changed inside.items)) (changed (box_value later))
 unfolding changed
 changed_over same inside later = ap changed (sym (rolls-Over same inside later)) ∙ fold-roll-Change model.Change changed_node (Change-F.Over same inside later)
+
+pub changed_first : (same inside : _) → changed (change.First same inside) ≡ model.over same (chain (map changed inside.items)) model.stays
+unfolding changed
+changed_first same inside = ap changed (sym (rolls-First same inside)) ∙ fold-roll-Change model.Change changed_node (Change-F.First same inside)
 
 -- a line before none, and before some
 pub none_before : (c : model.Change) → same_before 0 c ≡ c

@@ -16,6 +16,8 @@ pub enum Change {
     /// The first line was heard again: whether it is the same, since its names have the outcomes of before, or the rows of a loop their keys, in the same
     /// order; what became of what is kept inside it, in order, and of what is kept behind it.
     Over(bool, Vec<Change>, Box<Change>),
+    /// So it was, and all behind the first line stays.
+    First(bool, Vec<Change>),
     /// The first line has nothing inside it and is the same, and so are so many behind it; and what became of the lines behind these.
     Same(usize, Box<Change>),
 }
@@ -48,6 +50,25 @@ fn one_more(alloc: Global, later: Change) -> Result<Change, NoMemory>
     }
 }
 
+// The first line was heard again: whether it is the same, what became of its inside, and of the lines behind it. Where these stay, no box is made.
+#[tactic(auto, using(crate::proofs::ChangeEquations::changed_over, crate::proofs::ChangeEquations::changed_first, crate::proofs::ChangeEquations::changed_stays))]
+fn first_over(
+    alloc: Global,
+    same: bool,
+    inside: Vec<Change>,
+    later: Change,
+) -> Result<Change, NoMemory>
+    ensures { IfOk result (λ c. changed c ≡ model.over same (chain (map changed inside.items)) (changed later)) }
+{
+    match later {
+        Change::Stays => Ok(Change::First(same, inside)),
+        other => {
+            let behind = Box::new(alloc, other)?;
+            Ok(Change::Over(same, inside, behind))
+        }
+    }
+}
+
 impl Change {
     /// All stays.
     #[tactic(auto, using(crate::proofs::ChangeEquations::changed_stays))]
@@ -70,7 +91,6 @@ impl Change {
     /// # Errors
     ///
     /// `NoMemory` alone.
-    #[tactic(auto, using(crate::proofs::ChangeEquations::changed_over))]
     pub fn over(
         alloc: Global,
         same: bool,
@@ -83,6 +103,7 @@ impl Change {
             let all = one_more(alloc, later)?;
             return Ok(all);
         }
-        Ok(Change::Over(same, inside, Box::new(alloc, later)?))
+        let all = first_over(alloc, same, inside, later)?;
+        Ok(all)
     }
 }

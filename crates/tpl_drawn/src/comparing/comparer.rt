@@ -40,6 +40,7 @@ fn is_stays(change: &Change) -> bool
         Change::Stays => true,
         Change::Made => false,
         Change::Over(_, _, _) => false,
+        Change::First(_, _) => false,
         Change::Same(_, _) => false,
     }
 }
@@ -507,6 +508,13 @@ fn compare_lines(
         Change::Over(same, inside, later) => {
             compare_parts(
                 alloc, listed, *same, key, lines, memo, inside, 0, later, page, children, out,
+            )?;
+            Ok(())
+        }
+        Change::First(same, inside) => {
+            let still = Change::stays();
+            compare_parts(
+                alloc, listed, *same, key, lines, memo, inside, 0, &still, page, children, out,
             )?;
             Ok(())
         }

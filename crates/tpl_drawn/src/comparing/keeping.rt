@@ -45,6 +45,10 @@ pub fn keeps_nodes(lines: &Block, change: &Change) -> bool
         Change::Stays => true,
         Change::Made => is_plain(lines),
         Change::Over(same, _, later) => keeps_parts(lines, *same, 0, later),
+        Change::First(same, _) => {
+            let still = Change::stays();
+            keeps_parts(lines, *same, 0, &still)
+        }
         Change::Same(more, later) => keeps_parts(lines, true, *more, later),
     }
 }

@@ -55,7 +55,8 @@ fn mark_text(
         PageMemo::Line(heard, _) => {
             let outcome = heard.outcome.copy()?;
             let said = node_text(alloc, outcome)?;
-            restated.push(said_mark(alloc, number, said))?;
+            restated.reserve(1)?;
+            restated.push_reserved(said_mark(alloc, number, said));
             Ok(())
         }
         PageMemo::Unread => Ok(()),

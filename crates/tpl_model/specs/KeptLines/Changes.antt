@@ -41,6 +41,7 @@ abbrev pub changed_node : Change-F Change → Change
 changed_node Change-F.Stays = stays
 changed_node Change-F.Made = made
 changed_node (Change-F.Over same inside later) = over same (chain inside.items) (box_value later)
+changed_node (Change-F.First same inside) = over same (chain inside.items) stays
 changed_node (Change-F.Same more later) = over true nothing (same_before more (box_value later))
 
 -- a change as the code has it

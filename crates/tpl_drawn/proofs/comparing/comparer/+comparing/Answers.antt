@@ -7,7 +7,7 @@ use Rattle.page_model.specs.Addresses.{address}
 use Rattle.page_model.specs.Labels.{Element}
 use Rattle.tpl_blocks.specs.Blocks.{block, waiting}
 use Rattle.tpl_model.specs.KeptLines.Changes.{chain, changed, first_in, over, same_before}
-use Rattle.tpl_model.proofs.ChangeEquations.{changed_made, changed_over, changed_same, changed_stays, none_before, one_less}
+use Rattle.tpl_model.proofs.ChangeEquations.{changed_first, changed_made, changed_over, changed_same, changed_stays, none_before, one_less}
 use Rattle.tpl_drawn.specs.Addresses.{number_on}
 use Rattle.tpl_model.specs.KeptLines.Kept.{heard_of, kept}
 use Rattle.tpl_drawn.specs.Heads.{table_of}
@@ -339,6 +339,15 @@ compare_lines-returns-in_ok-compare_parts-in-Over u c = λ known k.
     (as_listed c.args.listed (of_lines known (option_copied c.args.key) (block c.args.lines.now) (kept c.args.memo.now) z)))
     (ap (over c.in-Over.same (chain (map changed c.in-Over.inside.items))) (none_before (changed (box_value c.in-Over.later)))
     ∙ sym (ap changed c.in-Over.is ∙ changed_over c.in-Over.same c.in-Over.inside c.in-Over.later))
+
+pub compare_lines-returns-in_ok-compare_parts-in-First : goal.compare_lines-returns-in_ok-compare_parts-in-First
+compare_lines-returns-in_ok-compare_parts-in-First u c = λ known k.
+    let inside = chain (map changed c.in-First.inside.items) in
+    rw c.deref-in-First.ensures.value at (c.in_ok-compare_parts-in-First.ensures known k)
+    ∙ ap (λ z. further (walk_of c.args.children.now.items c.args.out.now)
+    (as_listed c.args.listed (of_lines known (option_copied c.args.key) (block c.args.lines.now) (kept c.args.memo.now) z)))
+    (ap (over c.in-First.same inside) (none_before (changed c.stays-still.result) ∙ c.stays-still.ensures)
+    ∙ sym (ap changed c.in-First.is ∙ changed_first c.in-First.same c.in-First.inside))
 
 pub compare_lines-returns-in_ok-compare_parts-in-Same : goal.compare_lines-returns-in_ok-compare_parts-in-Same
 compare_lines-returns-in_ok-compare_parts-in-Same u c = λ known k.

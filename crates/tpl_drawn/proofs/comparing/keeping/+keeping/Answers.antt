@@ -3,7 +3,7 @@ use Rattle.std.proofs.lemmas.Bool.Decides.{nat_tests}
 use Rattle.std.specs.Box.{box_value}
 use Rattle.tpl_blocks.specs.Blocks.{block}
 use Rattle.tpl_model.specs.KeptLines.Changes.{chain, changed, nothing, over, same_before}
-use Rattle.tpl_model.proofs.ChangeEquations.{changed_made, changed_over, changed_same, changed_stays, none_before, one_less}
+use Rattle.tpl_model.proofs.ChangeEquations.{changed_first, changed_made, changed_over, changed_same, changed_stays, none_before, one_less}
 use Rattle.tpl_drawn.specs.Comparison.{keeps_nodes}
 use Rattle.tpl_drawn.proofs.Compares.Tops.{made_keep, stays_keep}
 use Rattle.tpl_drawn.proofs.comparing.keeping.+keeping.Goals as goal
@@ -23,6 +23,14 @@ keeps_nodes-returns-in-Over u c =
     ∙ ap (keeps_nodes (block c.args.lines.now))
     (ap (over c.in-Over.same inside) (none_before (changed (box_value c.in-Over.later)))
     ∙ sym (ap changed c.in-Over.is ∙ changed_over c.in-Over.same c.in-Over.field-1 c.in-Over.later))
+
+pub keeps_nodes-returns-in-First : goal.keeps_nodes-returns-in-First
+keeps_nodes-returns-in-First u c =
+    let inside = chain (map changed c.in-First.field-1.items) in
+    c.keeps_parts-in-First.ensures inside
+    ∙ ap (keeps_nodes (block c.args.lines.now))
+    (ap (over c.in-First.same inside) (none_before (changed c.stays-still.result) ∙ c.stays-still.ensures)
+    ∙ sym (ap changed c.in-First.is ∙ changed_first c.in-First.same c.in-First.field-1))
 
 pub keeps_nodes-returns-in-Same : goal.keeps_nodes-returns-in-Same
 keeps_nodes-returns-in-Same u c =

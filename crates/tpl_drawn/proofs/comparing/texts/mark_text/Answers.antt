@@ -9,14 +9,14 @@ use Rattle.tpl_model.proofs.MemoEquations.{kept_blank, kept_branch, kept_either,
 use Rattle.tpl_drawn.proofs.Compares.Said.{said_marked, unsaid}
 use Rattle.tpl_drawn.proofs.comparing.texts.mark_text.Goals as goal
 
-pub returns-in_ok-push-in-Line : goal.returns-in_ok-push-in-Line
-returns-in_ok-push-in-Line c = λ known a there.
+pub returns-in_ok-reserve-in-Line : goal.returns-in_ok-reserve-in-Line
+returns-in_ok-reserve-in-Line c = λ known a there.
     let n = c.args.number in
     said_marked known a n (kept c.args.memo.now) (kept (box_value c.in-Line.field-1)) (heard_of c.in-Line.heard) (mark_of c.said_mark.result)
-    (map mark_of c.args.restated.now.items) (map mark_of c.push.new.self.items) (ap kept c.in-Line.is ∙ kept_line c.in-Line.heard c.in-Line.field-1) there
+    (map mark_of c.args.restated.now.items) (map mark_of c.push_reserved.new.self.items) (ap kept c.in-Line.is ∙ kept_line c.in-Line.heard c.in-Line.field-1) there
     (c.said_mark.ensures
     ∙ (λ i. record { number = n; look = Text ((c.in_ok-said-in-Line.ensures ∙ ap node_text c.in_ok-outcome-in-Line.ensures) i); children = [] }))
-    (ap (map mark_of) c.in_ok-push-in-Line.ensures.items ∙ map-append mark_of c.args.restated.now.items _)
+    (ap (map mark_of) (rw c.in_ok-reserve-in-Line.ensures.items at c.push_reserved.ensures.items) ∙ map-append mark_of c.args.restated.now.items _)
 
 pub returns-in-Unread : goal.returns-in-Unread
 returns-in-Unread c = λ known a there.
