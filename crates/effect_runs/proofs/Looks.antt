@@ -1,5 +1,5 @@
 -- What was read is looked at again.
-use Rattle.std.proofs.Common.{◌≡◌, ◌<◌, ◌≤◌, ◌+◌, ℕ, true, false, cond, List, [], ◌∷◌, ◌++◌, length, take, drop, get_or, Option, Some, None, refl, sym, ap, subst, ◌∙◌}
+use Rattle.std.proofs.Common.{◌≡◌, ◌<◌, ◌≤◌, ◌+◌, ℕ, Bool, true, false, not, cond, List, [], ◌∷◌, ◌++◌, length, take, drop, get_or, Option, Some, None, refl, sym, ap, subst, ◌∙◌}
 use Rattle.std.proofs.lemmas.List.{append-nil, drop_more, take_all, take_more, take-append-drop}
 use Rattle.sig_base.specs.declared.value.Outcome.{Outcome}
 use Rattle.sig_base.specs.Values.{same_outcome, same_outcome-Decides}
@@ -52,23 +52,31 @@ all_looked x y before after reads place end a =
     sym (ap (looked_at (scratch hosts x)) (sym (append-nil reads)) ∙ looked_behind (scratch hosts x) reads [] (rs.outcomes hosts all kept)
     ∙ append-nil (names_of reads)))
 
--- the next of what was read, and its present outcome
-pub record IsNext (y : Scene) (mid : Hosts → Type 0) (reads : List Seen) (place : ℕ) (s : Seen) (n : ℕ) (o : Outcome) : Type 0 where
+-- the next of what was read, and whether it has another outcome now
+pub record IsNext (y : Scene) (mid : Hosts → Type 0) (reads : List Seen) (place : ℕ) (s : Seen) (d : Bool) : Type 0 where
   pub inside : place < length reads
   pub read : s ≡ get_or reads place s
-  pub name : n ≡ s.name
-  pub value : (hosts : Hosts) → mid hosts → AreKept hosts y.graph.state.signals y.graph.state.memos → o ≡ scratch hosts y n
+  pub differs : (hosts : Hosts) → mid hosts → AreKept hosts y.graph.state.signals y.graph.state.memos → d ≡ not (same_outcome (scratch hosts y s.name) s.outcome)
 
-module _ (x y : Scene) (before mid : Hosts → Type 0) (reads : List Seen) (place : ℕ) (s : Seen) (n : ℕ) (o : Outcome)
-    (next : IsNext y mid reads place s n o) (a : IsRead x y before mid (take place reads)) where
+same_by : (b : Bool) → false ≡ not b → b ≡ true
+same_by true e = refl
+same_by false e = absurd cc
+
+other_by : (b : Bool) → true ≡ not b → b ≡ false
+other_by true e = absurd cc
+other_by false e = refl
+
+module _ (x y : Scene) (before mid : Hosts → Type 0) (reads : List Seen) (place : ℕ) (s : Seen) (d : Bool)
+    (next : IsNext y mid reads place s d) (a : IsRead x y before mid (take place reads)) where
   -- it has the outcome that was read
-  pub next_same : (z : Scene) (after : Hosts → Type 0) → Settles y z mid after (λ _. n ∷ []) → o ≡ s.outcome → IsRead x z before after (take (place + 1) reads)
+  pub next_same : (z : Scene) (after : Hosts → Type 0) → Settles y z mid after (λ _. s.name ∷ []) → d ≡ false → IsRead x z before after (take (place + 1) reads)
   next_same z after later is =
       let one : take (place + 1) reads ≡ take place reads ++ s ∷ [] =
       take_more reads place s next.inside ∙ ap (λ r. take place reads ++ r ∷ []) (sym next.read) in
-      let seen : record { name = n; outcome = o } ≡ s = λ i. record { name = next.name i; outcome = is i } in
-      subst (IsRead x z before after) (ap (λ r. take place reads ++ r ∷ []) seen ∙ sym one)
-      (read_one x y z before mid after (take place reads) n o a later next.value)
+      subst (IsRead x z before after) (sym one)
+      (read_one x y z before mid after (take place reads) s.name s.outcome a later
+      (λ hosts all kept.
+      sym ((same_outcome-Decides (scratch hosts y s.name) s.outcome).0 (same_by (same_outcome (scratch hosts y s.name) s.outcome) (sym is ∙ next.differs hosts all kept)))))
 
   -- the reads about it
   parts : reads ≡ take place reads ++ s ∷ drop (place + 1) reads
@@ -76,28 +84,25 @@ module _ (x y : Scene) (before mid : Hosts → Type 0) (reads : List Seen) (plac
       sym (take-append-drop place reads)
       ∙ ap (λ r. take place reads ++ r) (drop_more reads place s next.inside ∙ ap (λ r. r ∷ drop (place + 1) reads) (sym next.read))
 
-  other_now : same_outcome o s.outcome ≡ false → (hosts : Hosts) → before hosts → AreKept hosts x.graph.state.signals x.graph.state.memos → same_outcome (scratch hosts x s.name) s.outcome ≡ false
+  other_now : d ≡ true → (hosts : Hosts) → before hosts → AreKept hosts x.graph.state.signals x.graph.state.memos → same_outcome (scratch hosts x s.name) s.outcome ≡ false
   other_now other hosts all kept =
       ap (λ w. same_outcome (value_of hosts w s.name []) s.outcome) (sym a.settles.signals)
-      ∙ ap (λ m. same_outcome (scratch hosts y m) s.outcome) (sym next.name)
-      ∙ ap (λ v. same_outcome v s.outcome)
-      (sym (next.value hosts (a.settles.answers hosts all) (a.settles.kept hosts all kept)))
-      ∙ other
+      ∙ other_by (same_outcome (scratch hosts y s.name) s.outcome)
+      (sym other ∙ next.differs hosts (a.settles.answers hosts all) (a.settles.kept hosts all kept))
 
   -- it has another one
-  pub next_differs : same_outcome o s.outcome ≡ false → (hosts : Hosts) → before hosts → AreKept hosts x.graph.state.signals x.graph.state.memos → true ≡ some_differs (scratch hosts x) reads
+  pub next_differs : d ≡ true → (hosts : Hosts) → before hosts → AreKept hosts x.graph.state.signals x.graph.state.memos → true ≡ some_differs (scratch hosts x) reads
   next_differs other hosts all kept =
       sym (ap (some_differs (scratch hosts x)) parts
       ∙ differs_behind (scratch hosts x) (take place reads) (s ∷ drop (place + 1) reads) (a.outcomes hosts all kept)
       ∙ ap (λ b. cond b (some_differs (scratch hosts x) (drop (place + 1) reads)) true) (other_now other hosts all kept))
 
   -- and so the look ends there
-  pub next_looked : (z : Scene) (after : Hosts → Type 0) → Settles y z mid after (λ _. n ∷ []) → same_outcome o s.outcome ≡ false →
+  pub next_looked : (z : Scene) (after : Hosts → Type 0) → Settles y z mid after (λ _. s.name ∷ []) → d ≡ true →
       Settles x z before after (λ hosts. looked_at (scratch hosts x) reads)
   next_looked z after later other =
       same_settled x z before after (λ _. names_of (take place reads) ++ s.name ∷ []) (λ hosts. looked_at (scratch hosts x) reads)
-      (then_settled x y z before mid after (λ _. names_of (take place reads)) (λ _. s.name ∷ []) a.settles
-      (subst (λ m. Settles y z mid after (λ _. m ∷ [])) next.name later))
+      (then_settled x y z before mid after (λ _. names_of (take place reads)) (λ _. s.name ∷ []) a.settles later)
       (λ hosts all kept.
       sym (ap (looked_at (scratch hosts x)) parts
       ∙ looked_behind (scratch hosts x) (take place reads) (s ∷ drop (place + 1) reads) (a.outcomes hosts all kept)

@@ -1,5 +1,5 @@
 // Whether an effect is due.
-ghost use Rattle.std.specs.Prelude.{◌≡◌, [], IfOk, OnOk};
+ghost use Rattle.std.specs.Prelude.{◌≡◌, ◌∷◌, [], not, IfOk, IfSome, OnOk};
 ghost use Rattle.std.specs.List.{list_all};
 ghost use Rattle.std.specs.Option.{option_copied};
 ghost use Rattle.signal_model.specs.Recipes.{Hosts};
@@ -7,7 +7,8 @@ ghost use Rattle.signal_model.specs.Values.{value_of};
 ghost use Rattle.signal_model.specs.Kept.{AreKept};
 ghost use Rattle.effect_model.specs.Runs.{is_effect_due, looked_at, looked_names, some_differs};
 ghost use Rattle.sig_computed.specs.Scenes.{scene, CanSettle, Settles};
-ghost use Rattle.effect_runs.specs.Evaluations.{is_still};
+ghost use Rattle.sig_base.specs.Values.{same_outcome};
+ghost use Rattle.effect_runs.specs.Evaluations.{is_still, IsToldOf};
 
 use sig_base::{NoMemory, Outcome};
 use sig_computed::{RunNote, settle};
@@ -36,6 +37,45 @@ pub fn are_still(graph: &Graph, reads: &[Read]) -> bool
     reads.iter().all(|read| is_still(graph, read))
 }
 
+// Whether what was read is a cell that has the value still that was read; nothing where it is none. It is looked at where it stands.
+fn cell_still(graph: &Graph, read: &Read) -> Option<bool>
+    ensures { IfSome result (IsToldOf graph.now.state.signals read.now) }
+{
+    let value = graph.cell_value(read.id)?;
+    match &read.outcome {
+        Outcome::Good(kept) => Some(value.same(kept)),
+        Outcome::Bad(_) => Some(false),
+    }
+}
+
+// Settles what was read, and tells whether it has another outcome now. Where it is a cell there is nothing to settle, and no value is copied.
+fn differs_now(
+    graph: &mut Graph,
+    shelf: &mut Shelf,
+    read: &Read,
+    notes: &mut Vec<RunNote>,
+) -> Result<bool, NoMemory>
+    requires can { CanSettle (scene graph.old (⟦<Shelf as Lent>⟧.asked shelf.old) notes.old.items) }
+    requires counted { ⟦<Shelf as Lent>⟧.counted shelf.old }
+    ensures differs { (hosts : Hosts) → ⟦<Shelf as Lent>⟧.answers hosts shelf.old → AreKept hosts graph.old.state.signals graph.old.state.memos →
+        IfOk result (λ b. b ≡ not (same_outcome (value_of hosts graph.old.state.signals read.now.name []) read.now.outcome)) }
+    ensures settles { OnOk result (Settles
+        (scene graph.old (⟦<Shelf as Lent>⟧.asked shelf.old) notes.old.items) (scene graph.new (⟦<Shelf as Lent>⟧.asked shelf.new) notes.new.items)
+        (λ hosts. ⟦<Shelf as Lent>⟧.answers hosts shelf.old) (λ hosts. ⟦<Shelf as Lent>⟧.answers hosts shelf.new) (λ _. read.now.name ∷ [])) }
+    ensures can { OnOk result (CanSettle (scene graph.new (⟦<Shelf as Lent>⟧.asked shelf.new) notes.new.items)) }
+    ensures counted { OnOk result (⟦<Shelf as Lent>⟧.counted shelf.new) }
+{
+    let _count = notes.len();
+    match cell_still(graph, read) {
+        Some(still) => Ok(!still),
+        None => {
+            let outcome = settle(graph, shelf, read.id, notes)?;
+            let same = outcome.same(&read.outcome);
+            Ok(!same)
+        }
+    }
+}
+
 // Settles what was read up to the first signal that has another outcome now; whether there is one.
 fn look_at(
     graph: &mut Graph,
@@ -55,9 +95,8 @@ fn look_at(
     ensures counted { OnOk result (⟦<Shelf as Lent>⟧.counted shelf.new) }
 {
     for read in reads {
-        let _count = notes.len();
-        let outcome = settle(graph, shelf, read.id, notes)?;
-        if !outcome.same(&read.outcome) {
+        let differs = differs_now(graph, shelf, read, notes)?;
+        if differs {
             return Ok(true);
         }
     }
@@ -65,8 +104,8 @@ fn look_at(
 }
 
 /// Whether an effect is due, by what it keeps of its last run: where it has never run, or where a signal that it read, tracked, has another
-/// outcome now. What it read is settled in order, up to the first that differs, and nothing else is. Where all that it read are cells that
-/// have their values still, there is nothing to settle, and no value is copied.
+/// outcome now. What it read is settled in order, up to the first that differs, and nothing else is. A cell is looked at where it stands: there is
+/// nothing to settle, and no value is copied.
 ///
 /// # Errors
 ///
@@ -91,9 +130,6 @@ pub fn look(
     let Some(reads) = kept else {
         return Ok(true);
     };
-    if are_still(graph, reads) {
-        return Ok(false);
-    }
     let differs = look_at(graph, shelf, reads, notes)?;
     Ok(differs)
 }

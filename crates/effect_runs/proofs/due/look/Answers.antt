@@ -3,21 +3,10 @@ use Rattle.std.specs.Option.{option_copied}
 use Rattle.signal_model.specs.Values.{value_of}
 use Rattle.effect_model.specs.Runs.{is_effect_due}
 use Rattle.effect_runs.proofs.Looks.{kept_looked, never_looked}
-use Rattle.effect_runs.proofs.Still.{still_none, still_settled}
 use Rattle.effect_runs.proofs.due.look.Goals as goal
 
 pub returns-in_default-clause-after : goal.returns-in_default-clause-after
 returns-in_default-clause-after g c = never_looked _ _ (option_copied c.args.kept) (ap option_copied c.in_default.is) c.requires.can.idle
-
-pub returns-then-are_still-clause-due : goal.returns-then-are_still-clause-due
-returns-then-are_still-clause-due g c = λ hosts all kept.
-    still_none hosts c.args.graph.now.state.signals c.in-Some.reads.now (sym c.are_still.ensures ∙ c.if-are_still.true)
-    ∙ ap (is_effect_due (λ m. value_of hosts c.args.graph.now.state.signals m [])) (sym (ap option_copied c.in-Some.is))
-
-pub returns-then-are_still-clause-after : goal.returns-then-are_still-clause-after
-returns-then-are_still-clause-after g c =
-    kept_looked _ _ _ _ (option_copied c.args.kept) c.in-Some.reads.now (ap option_copied c.in-Some.is)
-    (still_settled _ _ c.in-Some.reads.now c.requires.can.idle (sym c.are_still.ensures ∙ c.if-are_still.true))
 
 pub returns-clause-due : goal.returns-clause-due
 returns-clause-due g c = λ hosts all kept.
