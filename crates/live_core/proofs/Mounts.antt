@@ -53,7 +53,7 @@ refused_steps hosts env asked m told_first es refused by is sound = record {
 -- pages were brought up to date behind what was told
 pub brought_steps : (hosts : Hosts) (env : told.Environment) (asked later : List HostPlace) (m new : Machine) (told_first pages es : List Entry) (refused : Bool) → false ≡ refused →
     AreUpdated env (plain_of [] m) (labels_of m.labels) asked later m.world new.world m.pages.items new.pages.items pages m.journal new.journal →
-    new ≡ record m { world = new.world; journal = new.journal; pages = new.pages } → es ≡ told_first ++ pages → IsSound hosts later new.world →
+    new ≡ record m { world = new.world; journal = new.journal; pages = new.pages; notes = new.notes } → es ≡ told_first ++ pages → IsSound hosts later new.world →
     Steps hosts later new es (after_turns env refused (reached (plain_of asked m) told_first))
 brought_steps hosts env asked later m new told_first pages es refused by up parts is sound = record {
   step =

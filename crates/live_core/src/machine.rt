@@ -14,8 +14,9 @@ use std::alloc::Global;
 
 /// What a script made: what its names stand for, what things are called, the signals, watchers, owners and effects, the batch that is
 /// open, the journal, once it was begun, the templates, the handlers of events with what each of them does, and the pages that live. Host
-/// formulas and equality rules stand beside it, and are handed to each act that needs them. The events of the last set stand in a list that
-/// is kept, so that the next set finds room for its own; so is the list in which an untraced get notes runs, which go once they are noted.
+/// formulas and equality rules stand beside it, and are handed to each act that needs them. The events of the last set or flush stand in a
+/// list that is kept, so that the next one finds room for its own; so is the list in which an untraced get notes runs, which go once they are
+/// noted, and a flush those of each page.
 #[derive(Drop)]
 pub struct Machine {
     pub alloc: Global,

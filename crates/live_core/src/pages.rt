@@ -124,6 +124,7 @@ impl Machine {
             &self.labels,
             &mut self.journal,
             &mut self.pages,
+            &mut self.notes,
         )?;
         append(&mut told, pages)?;
         Ok(told)
@@ -131,7 +132,11 @@ impl Machine {
 
     /// Runs the effects that are due, in turns, and then brings the pages that live up to date. An effect that is due after the last turn
     /// makes it refused, and the pages are left as they were.
-    pub(crate) fn flush(
+    ///
+    /// # Errors
+    ///
+    /// `NoMemory` alone.
+    pub fn flush(
         &mut self,
         shelf: &mut Shelf,
         rules: &[EqualsRule],
@@ -143,10 +148,15 @@ impl Machine {
             es.items (λ hosts. done (environment hosts (map (λ r. r.slack) rules.now)) (plain_of (⟦<Shelf as Lent>⟧.asked shelf.old) self.old) (command.Bare bares.Flush))) }
         ensures memory { IfErr result (λ e. e ≡ fault.NoMemory) }
     {
-        let mut events = Vec::new(self.alloc);
-        let end = flush(&mut self.world, shelf, rules, &mut events)?;
-        let _count = events.len();
-        let told = tell_all(self.alloc, &mut self.labels, &mut self.journal, &events)?;
+        self.events.clear();
+        let end = flush(&mut self.world, shelf, rules, &mut self.events)?;
+        let _count = self.events.len();
+        let told = tell_all(
+            self.alloc,
+            &mut self.labels,
+            &mut self.journal,
+            &self.events,
+        )?;
         keep_live(&mut self.pages, &self.world.tables.pages);
         let told = self.end_flush(shelf, end.refused, told)?;
         Ok(told)

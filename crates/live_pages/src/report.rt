@@ -10,6 +10,7 @@ ghost use Rattle.live_pages.specs.Views.{content_html, page_of};
 
 use crate::mounted::Mounted;
 use live_entries::{Entry, PageBytes, PageOp};
+use live_labels::put_entry;
 use page_ops::Op;
 use page_tree::Tree;
 use sig_base::{Name, NoMemory};
@@ -56,7 +57,7 @@ pub fn tell_ops(told: &mut Vec<Entry>, name: &Name, ops: Vec<Op>) -> Result<(), 
     ensures { OnOk result (told.new.items ≡ told.old.items ++ ops_told name.now (map op_of ops.items)) }
 {
     for op in ops {
-        told.push(Entry::Op(name.copy()?, PageOp::of(op)))?;
+        put_entry(told, Entry::Op(name.copy()?, PageOp::of(op)))?;
     }
     Ok(())
 }
@@ -71,7 +72,7 @@ pub fn tell_page(told: &mut Vec<Entry>, name: &Name, page: &Page) -> Result<(), 
     ensures { OnOk result (told.new.items ≡ told.old.items ++ entry.Page name.now (content_html page.now) ∷ []) }
 {
     let html = html_of(*told.allocator(), page)?;
-    told.push(Entry::Page(name.copy()?, html))?;
+    put_entry(told, Entry::Page(name.copy()?, html))?;
     Ok(())
 }
 

@@ -18,16 +18,18 @@ use live_entries::Entry;
 use live_labels::{Labels, tell_runs};
 use live_why::Recorder;
 use sig_base::NoMemory;
+use sig_computed::RunNote;
 use sig_host::{Lent, Shelf};
 use std::alloc::Global;
 
-// Brings a page up to date, and tells the runs on the way and its news.
+// Brings a page up to date, and tells the runs on the way, which are noted in a list that is kept, and its news.
 fn bring_up(
     world: &mut World,
     shelf: &mut Shelf,
     labels: &Labels,
     journal: &mut Option<Recorder>,
     page: &mut Mounted,
+    notes: &mut Vec<RunNote>,
     told: &mut Vec<Entry>,
 ) -> Result<(), NoMemory>
     requires stands { IsStanding (standing page.old.page) }
@@ -43,16 +45,16 @@ fn bring_up(
     ensures settled { OnOk result (Settled (⟦<Shelf as Lent>⟧.asked shelf.old) (⟦<Shelf as Lent>⟧.asked shelf.new) world.old world.new
         (λ hosts. ⟦<Shelf as Lent>⟧.answers hosts shelf.old) (λ hosts. ⟦<Shelf as Lent>⟧.answers hosts shelf.new) (⟦<Shelf as Lent>⟧.counted shelf.new) (2 ^ 64) (2 ^ 71)) }
 {
-    let mut notes = Vec::new(*told.allocator());
-    let ops = page.page.update(&mut world.graph, shelf, &mut notes)?;
+    notes.clear();
+    let ops = page.page.update(&mut world.graph, shelf, notes)?;
     let _count = notes.len();
-    tell_runs(told, &labels.signals, journal, &notes)?;
+    tell_runs(told, &labels.signals, journal, notes)?;
     tell_news(told, page, ops)?;
     Ok(())
 }
 
 /// Brings all pages up to date, in order of mounting, and tells the runs on the way and their news: the operations on each page that has one,
-/// and its HTML behind them.
+/// and its HTML behind them. The runs are noted in a list that is kept, so that the next flush finds room for its own.
 ///
 /// # Errors
 ///
@@ -64,6 +66,7 @@ pub fn bring_all_up(
     labels: &Labels,
     journal: &mut Option<Recorder>,
     pages: &mut Vec<Mounted>,
+    notes: &mut Vec<RunNote>,
 ) -> Result<Vec<Entry>, NoMemory>
     requires stand { AreStanding pages.old.items }
     requires few { length pages.old.items ≤ MOST_PAGES }
@@ -80,7 +83,7 @@ pub fn bring_all_up(
 {
     let mut told = Vec::new(alloc);
     for page in pages.iter_mut() {
-        bring_up(world, shelf, labels, journal, page, &mut told)?;
+        bring_up(world, shelf, labels, journal, page, notes, &mut told)?;
     }
     Ok(told)
 }

@@ -23,7 +23,7 @@ returns-clause-page g c = λ hosts slacks templates all sound shown.
     let e = c.in_ok-ops.ensures in
     let s = e.settles t.lines t.links shown.stands in
     let q : Mounted = record (c.args.page.now) { page = c.update.new.self } in
-    let lifted = settled_does hosts slacks _ _ _ _ _ w c.update.new.graph c.new-notes.result.items c.update.new.notes.items c.new-notes.ensures.items c.requires.can.agrees s all sound in
+    let lifted = settled_does hosts slacks _ _ _ _ _ w c.update.new.graph c.clear.new.self.items c.update.new.notes.items c.clear.ensures.items c.requires.can.agrees s all sound in
     page_up hosts slacks _ _ (labels_of c.args.labels.now) templates w (record w { graph = c.update.new.graph }) c.args.page.now q _ c.args.told.now.items c.tell_news.new.told.items c.args.journal.now c.tell_runs.new.journal
     c.update.new.notes.items lifted
     (ap (λ n. record (page_of c.args.page.now) { content = n }) (e.page t.lines t.links shown.stands hosts all sound.kept))
@@ -49,5 +49,5 @@ pub returns-clause-settled : goal.returns-clause-settled
 returns-clause-settled g c =
     let r = c.requires.stands in
     let few = c.update.new.notes.small in
-    settled_by _ _ _ _ _ _ c.args.world.now c.update.new.graph c.new-notes.result.items c.update.new.notes.items c.new-notes.ensures.items (omega (arith, few))
+    settled_by _ _ _ _ _ _ c.args.world.now c.update.new.graph c.clear.new.self.items c.update.new.notes.items c.clear.ensures.items (omega (arith, few))
     c.requires.can.agrees c.in_ok-ops.ensures.counted (c.in_ok-ops.ensures.settles r.lines r.links r.stands)

@@ -17,7 +17,7 @@ returns-clause-steps g c = λ hosts slacks all sound.
     let m = c.args.self.now in
     let e = c.in_ok-pages.ensures in
     let up = e.pages hosts slacks (plain_of [] m) all sound c.requires.shown in
-    let new = record m { world = c.bring_all_up.new.world; journal = c.bring_all_up.new.journal; pages = c.bring_all_up.new.pages } in
+    let new = record m { world = c.bring_all_up.new.world; journal = c.bring_all_up.new.journal; pages = c.bring_all_up.new.pages; notes = c.bring_all_up.new.notes } in
     brought_steps hosts (environment hosts slacks) _ _ m new c.args.told.items c.in_ok-pages.pages.items c.append.new.told.items
     c.args.refused (sym c.if-refused.false) up refl c.in_ok-append.ensures (e.settled.sound hosts all sound)
 
@@ -26,7 +26,7 @@ returns-clause-leaves g c = λ hosts count ready all sound.
     let m = c.args.self.now in
     let e = c.in_ok-pages.ensures in
     let s = e.settled in
-    let new = record m { world = c.bring_all_up.new.world; journal = c.bring_all_up.new.journal; pages = c.bring_all_up.new.pages } in
+    let new = record m { world = c.bring_all_up.new.world; journal = c.bring_all_up.new.journal; pages = c.bring_all_up.new.pages; notes = c.bring_all_up.new.notes } in
     record {
       ready = ready_changed m new ready
           (record { names = refl; templates = refl; handlers = refl; scripts = refl; labels = record { signals = refl; owners = refl; pages = refl; watchers = refl } }) (stays_settled m.world new.world s.stays) (e.shown (map template_of m.templates.items) c.requires.shown)

@@ -11,7 +11,7 @@ use Rattle.live_pages.specs.declared.mounted.Mounted.{Mounted}
 use Rattle.live_pages.specs.Views.{template_of}
 use Rattle.live_pages.proofs.Shared.{fewer, shown_filtered}
 use Rattle.live_core.proofs.Batched.{roomy_none}
-use Rattle.live_core.proofs.Commands.{acts_steps, leaves_ended, pages_steps, stays_by, tells_by}
+use Rattle.live_core.proofs.Commands.{acts_steps, leaves_ended, pages_steps, stays_by, steps_beside, tells_by}
 use Rattle.live_core.proofs.Mounts.{flush_steps}
 use Rattle.live_core.proofs.machine.Machine.flush.Goals as goal
 
@@ -25,7 +25,7 @@ pub end_flush-requires-clause-can : goal.end_flush-requires-clause-can
 end_flush-requires-clause-can g c =
     let heavy = c.in_ok-end.ensures.spent.weight in
     let asks = c.in_ok-end.ensures.spent.most in
-    let before = ap length c.new-events.ensures.items in
+    let before = ap length c.clear.ensures.items in
     let small = c.flush.new.events.small in
     let w = c.requires.can.weight in
     let r = c.requires.can.most in
@@ -57,22 +57,24 @@ returns-clause-did g c = record {
       let e = c.in_ok-end.ensures in
       let t = c.in_ok-told.ensures in
       let said = record m { world = c.flush.new.world; labels = c.tell_all.new.labels; journal = c.tell_all.new.journal } in
-      let middle = record said { pages = c.keep_live.new.pages } in
+      let lasting = record said { pages = c.keep_live.new.pages } in
+      let middle = record lasting { events = c.flush.new.events } in
       let act : told.World → told.World = λ w. (flush env w).world in
-      let done = acts_steps hosts _ _ m c.flush.new.world c.tell_all.new.labels c.tell_all.new.journal c.new-events.result.items c.flush.new.events.items act act c.in_ok-told.told.items
-      c.new-events.ensures.items (e.done.does hosts all sound) refl
+      let done = acts_steps hosts _ _ m c.flush.new.world c.tell_all.new.labels c.tell_all.new.journal c.clear.new.self.items c.flush.new.events.items act act c.in_ok-told.told.items
+      c.clear.ensures.items (e.done.does hosts all sound) refl
       (tells_by m.labels c.tell_all.new.labels m.journal c.tell_all.new.journal c.flush.new.events.items _ c.in_ok-told.told.items c.deref.ensures.value t.entries t.labels t.noted t.names) in
-      let paged = pages_steps hosts _ said middle c.in_ok-told.told.items _ done refl
+      let paged = pages_steps hosts _ said lasting c.in_ok-told.told.items _ done refl
       (c.keep_live.ensures ∙ ap (λ ns. filter (λ p. is_in p.number ns) m.pages.items) c.deref-2.ensures.value) in
-      let last = c.in_ok-told-2.ensures.steps hosts (map (λ r. r.slack) c.args.rules.now) (e.done.answers hosts all) paged.sound in
-      flush_steps hosts env _ _ _ m middle c.end_flush.new.self c.in_ok-told.told.items c.in_ok-told-2.told.items c.in_ok-end.end.refused paged (e.ends hosts all sound).1 last;
+      let beside = steps_beside hosts _ lasting middle c.in_ok-told.told.items _ paged refl in
+      let last = c.in_ok-told-2.ensures.steps hosts (map (λ r. r.slack) c.args.rules.now) (e.done.answers hosts all) beside.sound in
+      flush_steps hosts env _ _ _ m middle c.end_flush.new.self c.in_ok-told.told.items c.in_ok-told-2.told.items c.in_ok-end.end.refused beside (e.ends hosts all sound).1 last;
   leaves = λ hosts all sound.
       let m = c.args.self.now in
       let env = environment hosts (map (λ r. r.slack) c.args.rules.now) in
       let e = c.in_ok-end.ensures in
-      let middle = record m { world = c.flush.new.world; labels = c.tell_all.new.labels; journal = c.tell_all.new.journal; pages = c.keep_live.new.pages } in
+      let middle = record m { world = c.flush.new.world; labels = c.tell_all.new.labels; journal = c.tell_all.new.journal; pages = c.keep_live.new.pages; events = c.flush.new.events } in
       let d = e.done.does hosts all sound in
-      let before = ap length c.new-events.ensures.items in
+      let before = ap length c.clear.ensures.items in
       let small = c.flush.new.events.small in
       let heavy = e.spent.weight in
       let first = leaves_ended _ _ (length c.args.rules.now) m middle c.requires.can.ready (record { names = refl; templates = refl; handlers = refl; scripts = refl; labels = c.in_ok-told.ensures.names })
@@ -88,7 +90,7 @@ returns-clause-did g c = record {
   counted = c.in_ok-told-2.ensures.settled.counted;
   most =
       let heavy = c.in_ok-end.ensures.spent.most in
-      let before = ap length c.new-events.ensures.items in
+      let before = ap length c.clear.ensures.items in
       let small = c.flush.new.events.small in
       let more = c.in_ok-told-2.ensures.settled.most in
       omega (arith, heavy, before, small, more);
