@@ -1,6 +1,7 @@
 -- What the names of a command are, where none is refused.
-use Rattle.std.proofs.Common.{◌≡◌, ◌<◌, ℕ, not, Bool, true, false, cond, List, [], ◌∷◌, ◌++◌, map, Option, Some, None, refl, sym, ap, subst, ◌∙◌}
+use Rattle.std.proofs.Common.{◌≡◌, ◌<◌, ℕ, not, Bool, true, false, cond, List, [], ◌∷◌, ◌++◌, map, Option, Some, None, is_some, refl, sym, ap, subst, ◌∙◌}
 use Rattle.std.specs.Option.{option_or, option_map_or}
+use Rattle.std.proofs.lemmas.Bool.{true≢false}
 use Rattle.std.specs.List.{AllByRecursion}
 use Rattle.signal_model.specs.Signals.{is_in, is_there, standing}
 use Rattle.effect_model.specs.Worlds.{watcher_numbers}
@@ -28,6 +29,11 @@ use Rattle.live_core.specs.Views.{plain_of}
 pub neither : {A : Type 0} (a b : Option A) → option_or a b ≡ None → (a ≡ None) × (b ≡ None)
 neither None b e = (refl, e)
 neither (Some x) b e = absurd cc
+
+-- what isn't something is nothing
+pub none_there : {A : Type 0} (o : Option A) → is_some o ≡ false → o ≡ None
+none_there None e = refl
+none_there (Some x) e = absurd (true≢false e)
 
 -- a name that is used rightly
 pub record IsUsed (w : World) (names : Names) (n : List ℕ) (needed : Need) : Type 0 where

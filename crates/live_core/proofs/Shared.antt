@@ -1,7 +1,7 @@
 -- What crates above may cite of these proofs. All else in this folder is this crate's own.
 
--- where neither answers
-pub use Rattle.live_core.proofs.Rightly.{neither}
+-- where neither answers, and what isn't something
+pub use Rattle.live_core.proofs.Rightly.{neither, none_there}
 -- as many handlers are seen as there are
 pub use Rattle.live_core.proofs.Handled.{handlers_count}
 -- what is done where a trace is asked for, where none is, and where all is told

@@ -1,6 +1,6 @@
 // Cells get values, and changes are collected while a batch is open: they are told together as it is committed, or given back as it is
 // aborted.
-ghost use Rattle.std.specs.Prelude.{◌≡◌, ◌<◌, ◌^◌, ℕ, [], true, false, List, None, IfErr, IfOk, OnOk, length, map};
+ghost use Rattle.std.specs.Prelude.{◌≡◌, ◌<◌, ◌^◌, ℕ, [], true, false, List, None, IfErr, IfOk, OnOk, is_some, length, map};
 ghost use Rattle.signal_model.specs.Recipes.{Hosts};
 ghost use Rattle.signal_model.specs.Signals.{is_computed, is_there, standing};
 ghost use Rattle.sig_host.specs.Hosts.{HostPlace};
@@ -36,6 +36,7 @@ impl Machine {
 
     // Gives a cell a value while no batch is open and nobody hears of it, so that nothing is told. Its clauses are those of `set_told`, and that
     // nobody hears of it.
+    #[inline(always)]
     fn set_unheard(&mut self, rules: &[EqualsRule], cell: NodeId, value: Value)
         requires ready { IsReady self.old }
         requires alone { self.old.batch ≡ None }
@@ -94,6 +95,7 @@ impl Machine {
     }
 
     // So it is done, with the same clauses; and where nobody hears of it, nothing is put together that would be told.
+    #[inline(always)]
     fn set_alone(
         &mut self,
         rules: &[EqualsRule],
@@ -122,6 +124,38 @@ impl Machine {
         Ok(told)
     }
 
+    // Gives a cell a value while a batch is open: the cell joins it, and nobody is notified. Its clauses are those of `set_value`, and that one is
+    // open.
+    #[inline(never)]
+    fn set_batched(
+        &mut self,
+        rules: &[EqualsRule],
+        cell: NodeId,
+        value: Value,
+    ) -> Result<Vec<Entry>, EffectFault>
+        requires ready { IsReady self.old }
+        requires batched { is_some self.old.batch ≡ true }
+        requires owned { AreOwned self.old.world }
+        requires weight { weight self.old.world < 2 ^ 125 }
+        requires ruled { AreRuled (length rules.now) self.old.world.graph.state.signals }
+        requires kind { is_computed (standing self.old.world.graph.state.signals cell) ≡ false }
+        requires there { is_there (standing self.old.world.graph.state.signals cell) ≡ true }
+        ensures steps { (hosts : Hosts) (asked : List HostPlace) → IsSound hosts asked self.old.world →
+            IfOk result (λ es. Steps hosts asked self.new es.items
+            (setting (environment hosts (map (λ r. r.slack) rules.now)) (plain_of asked self.old) cell value)) }
+        ensures leaves { (hosts : Hosts) (asked : List HostPlace) (count : ℕ) → IsSound hosts asked self.old.world →
+            OnOk result (Leaves asked asked count self.old self.new) }
+        ensures memory { IfErr result (λ e. e ≡ fault.NoMemory) }
+    {
+        let Some(batch) = &mut self.batch else {
+            unreachable!();
+        };
+        let mut events = Vec::new(self.alloc);
+        let _done = self.world.set_in(batch, rules, cell, value, &mut events)?;
+        let told = tell_all(self.alloc, &mut self.labels, &mut self.journal, &events)?;
+        Ok(told)
+    }
+
     /// Gives a cell a value. What is notified is told; while a batch is open the cell joins it, and nobody is notified. It asks for all
     /// that a set without a batch asks for, but that none is open; what it comes to and that another command may follow are two clauses,
     /// as only the first one is about the entries.
@@ -129,6 +163,7 @@ impl Machine {
     /// # Errors
     ///
     /// `NoMemory` alone.
+    #[inline(always)]
     pub fn set_value(
         &mut self,
         rules: &[EqualsRule],
@@ -148,12 +183,11 @@ impl Machine {
             OnOk result (Leaves asked asked count self.old self.new) }
         ensures memory { IfErr result (λ e. e ≡ fault.NoMemory) }
     {
-        let Some(batch) = &mut self.batch else {
-            return self.set_alone(rules, cell, value);
-        };
-        let mut events = Vec::new(self.alloc);
-        let _done = self.world.set_in(batch, rules, cell, value, &mut events)?;
-        let told = tell_all(self.alloc, &mut self.labels, &mut self.journal, &events)?;
+        if self.batch.is_some() {
+            let told = self.set_batched(rules, cell, value)?;
+            return Ok(told);
+        }
+        let told = self.set_alone(rules, cell, value)?;
         Ok(told)
     }
 
