@@ -37,7 +37,7 @@ pub fn append(told: &mut Vec<Entry>, more: Vec<Entry>) -> Result<(), NoMemory>
         return Ok(());
     }
     for entry in more {
-        told.push(entry)?;
+        put_entry(told, entry)?;
     }
     Ok(())
 }
@@ -133,6 +133,7 @@ fn gone_entry(alloc: Global, labels: &Labels, thing: &Thing) -> Result<Entry, No
 }
 
 // What is told of an evaluated body.
+#[inline(always)]
 fn effect_entry(
     alloc: Global,
     labels: &Labels,
