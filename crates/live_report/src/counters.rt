@@ -18,7 +18,7 @@ pub fn is_command(item: &Item) -> bool
 }
 
 // 1 for a run of a computed, and 0 for every other entry.
-fn run_count(entry: &Entry) -> u128
+fn run_count(entry: &Entry) -> u64
     ensures { result ≡ (if is_run entry.now then 1 else 0) }
 {
     match entry {
@@ -28,7 +28,7 @@ fn run_count(entry: &Entry) -> u128
 }
 
 // 1 for an operation on a page, and 0 for every other entry.
-fn op_count(entry: &Entry) -> u128
+fn op_count(entry: &Entry) -> u64
     ensures { result ≡ (if is_op entry.now then 1 else 0) }
 {
     match entry {
@@ -37,26 +37,20 @@ fn op_count(entry: &Entry) -> u128
     }
 }
 
-fn runs_in(entries: &[Entry]) -> u128
-    ensures many { result ≡ count_by is_run entries.now }
-    ensures few { result < 2 ^ 63 }
+// How many runs and how many operations there are among entries, in one pass. Each of the two has a clause for its count and one for its bound.
+fn told_in(entries: &[Entry]) -> (u64, u64)
+    ensures runs { result.0 ≡ count_by is_run entries.now }
+    ensures ops { result.1 ≡ count_by is_op entries.now }
+    ensures few_runs { result.0 < 2 ^ 63 }
+    ensures few_ops { result.1 < 2 ^ 63 }
 {
-    let mut count = 0;
+    let mut runs = 0;
+    let mut ops = 0;
     for entry in entries {
-        count += run_count(entry);
+        runs += run_count(entry);
+        ops += op_count(entry);
     }
-    count
-}
-
-fn ops_in(entries: &[Entry]) -> u128
-    ensures many { result ≡ count_by is_op entries.now }
-    ensures few { result < 2 ^ 63 }
-{
-    let mut count = 0;
-    for entry in entries {
-        count += op_count(entry);
-    }
-    count
+    (runs, ops)
 }
 
 /// Nothing is counted.
@@ -91,10 +85,11 @@ pub fn with_entries(counts: Counts, entries: &[Entry]) -> Counts
     ensures many { result ≡ added counts (counts_of [] entries.now) }
     ensures few { result.commands + (result.runs + result.ops) ≤ counts.commands + (counts.runs + counts.ops) + 2 ^ 64 }
 {
+    let (runs, ops) = told_in(entries);
     Counts {
         commands: counts.commands,
-        runs: counts.runs + runs_in(entries),
-        ops: counts.ops + ops_in(entries),
+        runs: counts.runs + runs as u128,
+        ops: counts.ops + ops as u128,
     }
 }
 
