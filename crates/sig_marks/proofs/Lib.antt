@@ -1,4 +1,5 @@
 mod Kept
 mod LinkedSets
+mod ListedReaders
 mod PushedMarks
 pub mod Shared

@@ -13,7 +13,7 @@ use Rattle.sig_marks.specs.Tables.{dependants_at, depends, marked_at, Drops, Rel
 use Rattle.sig_marks.specs.Sets.{HasRoom, Links, Makes, Unlinks, depends_in, keys_in, keys_of, keys_held, room_for, spare_at, spare_in, stands_of, standing_count}
 
 -- tests of places
-apart : (a b : ℕ) → (a ≡ b → ⊥) → (a == b) ≡ false
+pub apart : (a b : ℕ) → (a ≡ b → ⊥) → (a == b) ≡ false
 apart a b h = elim (tested (a == b)) [ inl e ↦ absurd (h (eqb-true a b e)) | inr e ↦ e ]
 
 pub suc_zero : (m : ℕ) → (suc m == 0) ≡ false

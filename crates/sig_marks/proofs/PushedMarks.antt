@@ -215,7 +215,7 @@ pub record Spreading (deps : List (List ℕ)) (t0 : List Bool) (n : ℕ) (t : Li
   pub stack : (x : ℕ) → is_in x S ≡ true → Reached deps t0 n x
   pub done : (p : ℕ) → (p ≡ n) ⊎ ((marked_at t p ≡ true) × (marked_at t0 p ≡ false)) → (is_in p S ≡ true) ⊎ AllMarked t (dependants_at deps p)
 
-is_in_append : (m : ℕ) (xs ys : List ℕ) → is_in m (xs ++ ys) ≡ (is_in m xs || is_in m ys)
+pub is_in_append : (m : ℕ) (xs ys : List ℕ) → is_in m (xs ++ ys) ≡ (is_in m xs || is_in m ys)
 is_in_append m [] ys = refl
 is_in_append m (x ∷ xs) ys = ap (λ b. m == x || b) (is_in_append m xs ys) ∙ shift (m == x) (is_in m xs) (is_in m ys)
   where

@@ -5,18 +5,20 @@ use Rattle.signal_model.specs.Signals.{is_in}
 use Rattle.sig_store.specs.Stored.{entry}
 use Rattle.sig_marks.specs.Tables.{MarkTable, depends, marked_at}
 use Rattle.sig_marks.specs.declared.readers.Readers.{Readers}
-use Rattle.sig_marks.specs.declared.readers.Readers.TheVariants.{Nobody, One, Many}
+use Rattle.sig_marks.specs.declared.readers.Readers.TheVariants.{Nobody, One, Few, Many}
 
 -- the readers of a signal, in their order
 abbrev pub keys_held : Readers → List ℕ
 keys_held Nobody = []
 keys_held (One d) = d ∷ []
+keys_held (Few l) = l.keys
 keys_held (Many s) = s.value.keys
 
 -- how many more surely fit without memory, once this reader is none of them
 abbrev pub room_for : ℕ → Readers → ℕ
 room_for reader Nobody = 1
 room_for reader (One d) = if reader == d then 1 else 0
+room_for reader (Few l) = l.room
 room_for reader (Many s) = spare s.value
 
 -- which entries stand

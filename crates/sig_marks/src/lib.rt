@@ -5,6 +5,7 @@ mod links;
 mod marks;
 mod presence;
 mod propagation;
+mod reader_list;
 mod readers;
 
 pub use marks::Marks;

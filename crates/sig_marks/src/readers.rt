@@ -5,10 +5,14 @@ ghost use Rattle.signal_model.specs.Laws.{AreDistinct};
 ghost use Rattle.signal_model.specs.Signals.{is_in};
 ghost use Rattle.sig_marks.specs.Sets.{keys_held, room_for};
 
+use crate::reader_list::ReaderList;
 use indexmap::IndexSet;
 use sig_base::NoMemory;
 use std::alloc::Global;
 use std::slice;
+
+// So many readers stand in a list; where there are more, they have an index.
+const MOST_LISTED: usize = 8;
 
 /// The readers of a signal, each once. While there is but one it stands in place, so that most signals take no memory for them.
 #[derive(Drop)]
@@ -17,18 +21,10 @@ pub(crate) enum Readers {
     Nobody,
     /// One.
     One(u128),
-    /// Any number of them, once there was room for two.
+    /// A few, once there was room for two.
+    Few(ReaderList),
+    /// Any number of them, once there was room for more than a few.
     Many(Box<IndexSet<u128>>),
-}
-
-// A set of one reader, with room for one more.
-fn set_of(alloc: Global, reader: u128) -> Result<Box<IndexSet<u128>>, NoMemory>
-    ensures { IfOk result (λ s. (s.value.keys ≡ reader ∷ []) × (0 < spare s.value)) }
-{
-    let mut set = IndexSet::with_capacity(alloc, 2)?;
-    set.insert(reader)?;
-    let held = Box::new(alloc, set)?;
-    Ok(held)
 }
 
 // Room for a reader more in a set.
@@ -70,6 +66,7 @@ impl Readers {
         match self {
             Readers::Nobody => &[],
             Readers::One(reader) => slice::from_ref(reader),
+            Readers::Few(list) => list.as_slice(),
             Readers::Many(set) => set.as_slice(),
         }
     }
@@ -86,6 +83,7 @@ impl Readers {
                     *self = Readers::Nobody;
                 }
             }
+            Readers::Few(list) => list.remove(reader),
             Readers::Many(set) => unlink_one(set, reader),
         }
     }
@@ -98,6 +96,7 @@ impl Readers {
         match self {
             Readers::Nobody => *self = Readers::One(reader),
             Readers::One(_) => {}
+            Readers::Few(list) => list.insert(reader),
             Readers::Many(set) => link_one(set, reader),
         }
     }
@@ -112,8 +111,18 @@ impl Readers {
             Readers::Nobody => Ok(()),
             Readers::One(one) => {
                 if *one != reader {
-                    *self = Readers::Many(set_of(alloc, *one)?);
+                    *self = Readers::Few(ReaderList::of(alloc, *one)?);
                 }
+                Ok(())
+            }
+            Readers::Few(list) => {
+                if list.has_room() {
+                    return Ok(());
+                }
+                if list.len() < MOST_LISTED {
+                    return list.reserve();
+                }
+                *self = Readers::Many(list.indexed(alloc)?);
                 Ok(())
             }
             Readers::Many(set) => reserve_one(set),

@@ -8,5 +8,5 @@ use Rattle.sig_marks.proofs.readers.Readers.as_slice.Goals as goal
 
 pub returns-in-Many-clause-once : goal.returns-in-Many-clause-once
 returns-in-Many-clause-once c =
-    let set = subst AreDistinct (ap (λ (s : IndexSet ℕ _). s.keys) c.deref.ensures) (distinct_keys c.deref.result.now.keys c.as_slice.ensures.unique) in
+    let set = subst AreDistinct (ap (λ (s : IndexSet ℕ _). s.keys) c.deref.ensures) (distinct_keys c.deref.result.now.keys c.as_slice-in-Many.ensures.unique) in
     subst (λ (r : Readers). AreDistinct (keys_held r)) (sym c.in-Many.is) set
