@@ -11,6 +11,10 @@ has_word w l = bytes_eq (first_word l) w
 unfoldable pub begins_block : List ℕ → Bool
 begins_block l = has_word (codes "effect") l || has_word (codes "template") l || has_word (codes "on") l
 
+-- whether a word that begins a block has this letter first
+abbrev pub fronts_block : ℕ → Bool
+fronts_block b = b == 101 || b == 116 || b == 111
+
 -- whether a line of a block opens a level
 unfoldable pub opens : List ℕ → Bool
 opens l =

@@ -3,7 +3,7 @@ ghost use Rattle.std.specs.Prelude.{◌≡◌, ◌≤◌, length};
 ghost use Rattle.std.specs.List.{prefix_len};
 ghost use Rattle.sig_base.specs.Words.{is_blank, begins_word, in_word};
 ghost use Rattle.script_lines.specs.Lines.{behind_blanks, first_word, is_passed};
-ghost use Rattle.script_lines.specs.Pieces.{begins_block, opens, closes};
+ghost use Rattle.script_lines.specs.Pieces.{begins_block, closes, fronts_block, opens};
 
 use sig_base::{begins_word, in_word, is_blank};
 
@@ -53,9 +53,16 @@ fn first_word(line: &[u8]) -> &[u8]
     &rest[..word_len(rest)]
 }
 
-// Whether a line outside a block begins one.
+// Whether a word that begins a block has this letter first.
+fn fronts_block(letter: u8) -> bool
+    ensures { result ≡ fronts_block letter }
+{
+    letter == b'e' || letter == b't' || letter == b'o'
+}
+
+// Whether the first word of a line outside a block begins one.
 #[tactic(auto, using(sig_base::proofs::Lengths::unlike), unfolding(crate::specs::Pieces::begins_block))]
-pub(crate) fn begins_block(line: &[u8]) -> bool
+fn begins_by_word(line: &[u8]) -> bool
     ensures { result ≡ begins_block line.now }
 {
     let word = first_word(line);
@@ -65,6 +72,20 @@ pub(crate) fn begins_block(line: &[u8]) -> bool
         8 => word == b"template".as_slice(),
         _ => false,
     }
+}
+
+// Whether a line outside a block begins one. Of most lines no more than the first letter is looked at.
+pub(crate) fn begins_block(line: &[u8]) -> bool
+    ensures { result ≡ begins_block line.now }
+{
+    let rest = behind_blanks(line);
+    if rest.is_empty() {
+        return false;
+    }
+    if !fronts_block(rest[0]) {
+        return false;
+    }
+    begins_by_word(line)
 }
 
 // Whether a line inside a block opens a level.
