@@ -10,3 +10,4 @@ pub mod Silent
 pub mod Tables
 pub mod Turns
 pub mod Fronts
+pub mod Lined

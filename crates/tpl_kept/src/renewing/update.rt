@@ -37,7 +37,36 @@ use tpl_blocks::Block;
 use tpl_hearing::{Outcomes, Rehearing, hear_again};
 use tpl_model::{Change, PageMemo};
 
-/// Hears the names of what is kept again, in order, up to the first that hasn't the outcome of before; whether there is none.
+// Hears the names of what is kept again, which are listed first. Its clauses are those of hearing them while the lines are gone over.
+#[inline(never)]
+fn listed_stay(
+    alloc: Global,
+    graph: &mut Graph,
+    shelf: &mut Shelf,
+    before: &Outcomes,
+    hearing: &mut Rehearing,
+    memo: &PageMemo,
+    notes: &mut Vec<RunNote>,
+) -> Result<bool, NoMemory>
+    requires can { CanSettle (scene graph.old (⟦<Shelf as Lent>⟧.asked shelf.old) notes.old.items) }
+    requires counted { ⟦<Shelf as Lent>⟧.counted shelf.old }
+    requires compared { AreCompared before.now hearing.old }
+    ensures again { IfOk result (λ same. AreHeardAgain same before.now (names (kept memo.now)) hearing.old.heard hearing.new.heard) }
+    ensures after { OnOk result (Hears
+        (scene graph.old (⟦<Shelf as Lent>⟧.asked shelf.old) notes.old.items) (scene graph.new (⟦<Shelf as Lent>⟧.asked shelf.new) notes.new.items)
+        (λ hosts. ⟦<Shelf as Lent>⟧.answers hosts shelf.old) (λ hosts. ⟦<Shelf as Lent>⟧.answers hosts shelf.new) hearing.old.heard hearing.new.heard) }
+    ensures can { OnOk result (CanSettle (scene graph.new (⟦<Shelf as Lent>⟧.asked shelf.new) notes.new.items)) }
+    ensures counted { OnOk result (⟦<Shelf as Lent>⟧.counted shelf.new) }
+    ensures compared { OnOk result (AreCompared before.now hearing.new) }
+{
+    let mut ids = Vec::new(alloc);
+    put_names(&mut ids, memo)?;
+    let same = hear_again(graph, shelf, before, hearing, &ids, notes)?;
+    Ok(same)
+}
+
+/// Hears the names of what is kept again, in order, up to the first that hasn't the outcome of before; whether there is none. Those of texts are
+/// heard line by line.
 ///
 /// # Errors
 ///
@@ -62,10 +91,20 @@ pub(crate) fn names_stay(
     ensures counted { OnOk result (⟦<Shelf as Lent>⟧.counted shelf.new) }
     ensures compared { OnOk result (AreCompared before.now hearing.new) }
 {
-    let mut ids = Vec::new(alloc);
-    put_names(&mut ids, memo)?;
-    let same = hear_again(graph, shelf, before, hearing, &ids, notes)?;
-    Ok(same)
+    match memo {
+        PageMemo::Blank => Ok(true),
+        PageMemo::Line(line, rest) => {
+            if !hear_again(graph, shelf, before, hearing, &line.names, notes)? {
+                return Ok(false);
+            }
+            let same = names_stay(alloc, graph, shelf, before, hearing, rest, notes)?;
+            Ok(same)
+        }
+        _ => {
+            let same = listed_stay(alloc, graph, shelf, before, hearing, memo, notes)?;
+            Ok(same)
+        }
+    }
 }
 
 /// Whether all names of lines are as before, where they are to be looked at.

@@ -2,7 +2,7 @@ use Rattle.std.proofs.Common.{◌≡◌, ◌++◌, refl, ap, ◌∙◌}
 use Rattle.tpl_model.specs.PageUpdates.PageMemos.{names}
 use Rattle.tpl_model.specs.KeptLines.Kept.{kept}
 use Rattle.tpl_kept.proofs.Listened.Splits.{again_as}
-use Rattle.tpl_kept.proofs.renewing.update.names_stay.Goals as goal
+use Rattle.tpl_kept.proofs.renewing.update.listed_stay.Goals as goal
 
 pub returns-clause-again : goal.returns-clause-again
 returns-clause-again g c =
