@@ -11,3 +11,4 @@ pub mod Tables
 pub mod Turns
 pub mod Fronts
 pub mod Lined
+pub mod Leading

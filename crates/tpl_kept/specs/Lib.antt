@@ -4,4 +4,5 @@ pub mod Changes
 pub mod Listed
 pub mod Nameless
 pub mod Rounds
+pub mod SameTexts
 pub mod Turns

@@ -1,5 +1,6 @@
 // What a page keeps of its lines, brought up to date by what changed.
 mod front;
+mod leading;
 mod looking;
 mod names;
 mod parts;

@@ -12,9 +12,11 @@ ghost use Rattle.tpl_model.specs.KeptLines.Changes.{changed, Tells};
 ghost use Rattle.tpl_model.specs.PageUpdates.PageMemos.{names};
 ghost use Rattle.tpl_kept.specs.Heads.{attributes_in};
 ghost use Rattle.tpl_kept.specs.Renewals.{AreLooked, WasMadeIfRead};
+ghost use Rattle.tpl_kept.specs.SameTexts.{AreSameTexts};
 
 use crate::listening::{listen_all_here, listen_here};
 use crate::making::{attributes_of, formula_of, inner_of, rest_of};
+use crate::renewing::leading::{count_same, lines_behind, same_before, swap_behind};
 use crate::renewing::looking::{Look, look_behind, look_within, looks_first};
 use crate::renewing::parts::{Renewed, unread};
 use crate::renewing::update::{renew_on, stays};
@@ -248,6 +250,49 @@ fn renew_here(
     }
 }
 
+// Brings what is kept of lines up to date, where it is kept: behind so many texts, of which each name was heard already and has the outcome of before,
+// and which stay. Its clauses are those of renewing.
+#[inline(never)]
+fn renew_behind(
+    alloc: Global,
+    graph: &mut Graph,
+    shelf: &mut Shelf,
+    before: &Outcomes,
+    hearing: &mut Rehearing,
+    lines: &Block,
+    count: usize,
+    memo: &mut PageMemo,
+    links: &[NodeId],
+    row: Option<&RowRef>,
+    notes: &mut Vec<RunNote>,
+) -> Result<Change, NoMemory>
+    requires same { AreSameTexts count before.now hearing.old.heard (kept memo.old) }
+    requires place { IfSome row (λ r. r.now.place < length r.now.rows.rows) }
+    requires can { CanSettle (scene graph.old (⟦<Shelf as Lent>⟧.asked shelf.old) notes.old.items) }
+    requires counted { ⟦<Shelf as Lent>⟧.counted shelf.old }
+    requires compared { AreCompared before.now hearing.old }
+    requires was { WasMade (lines_memo (block lines.now)) links.now (option_copied row) before.now (kept memo.old) }
+    ensures made { OnOk result (Makes (lines_memo (block lines.now)) links.now (option_copied row.entry) hearing.old.heard hearing.new.heard (kept memo.new)) }
+    ensures told { IfOk result (λ c. Tells (block lines.now) links.now (option_copied row.entry) before.now (kept memo.new) (changed c)) }
+    ensures after { OnOk result (Hears
+        (scene graph.old (⟦<Shelf as Lent>⟧.asked shelf.old) notes.old.items) (scene graph.new (⟦<Shelf as Lent>⟧.asked shelf.new) notes.new.items)
+        (λ hosts. ⟦<Shelf as Lent>⟧.answers hosts shelf.old) (λ hosts. ⟦<Shelf as Lent>⟧.answers hosts shelf.new) hearing.old.heard hearing.new.heard) }
+    ensures can { OnOk result (CanSettle (scene graph.new (⟦<Shelf as Lent>⟧.asked shelf.new) notes.new.items)) }
+    ensures counted { OnOk result (⟦<Shelf as Lent>⟧.counted shelf.new) }
+    ensures compared { OnOk result (AreCompared before.now hearing.new) }
+{
+    let mut later = PageMemo::blank();
+    let near = swap_behind(memo, count, 0, &mut later);
+    let rest = lines_behind(lines, count);
+    let look = Look::Changed;
+    let behind = renew_here(
+        alloc, graph, shelf, before, hearing, rest, near, &mut later, look, links, row, notes,
+    )?;
+    swap_behind(memo, count, near, &mut later);
+    let told = same_before(alloc, count, behind)?;
+    Ok(told)
+}
+
 /// Brings what a page keeps of these lines up to date, in the row where they stand, once one of its names has another outcome: it is what `make`
 /// would make. `before` are the outcomes on which it was made. A line whose names are as before isn't evaluated, the branch that was shown before is
 /// gone over again, a row that has its key and its values still keeps what was kept of it, and lines inside another one stay as they are where
@@ -299,6 +344,13 @@ pub fn renew(
             links,
             row,
             notes,
+        )?;
+        return Ok(Renewed { memo: all, change });
+    }
+    let count = count_same(hearing, before, 0, &all, usize::MAX);
+    if count > 0 {
+        let change = renew_behind(
+            alloc, graph, shelf, before, hearing, lines, count, &mut all, links, row, notes,
         )?;
         return Ok(Renewed { memo: all, change });
     }
