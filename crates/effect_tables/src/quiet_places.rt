@@ -133,7 +133,8 @@ fn first_unset_in(marks: &[bool], from: usize, end: usize) -> usize
 fn is_filled(marks: &[bool], start: usize) -> bool
     ensures { IsTrue result → AreSet start BLOCK marks.now }
 {
-    first_unset(marks, start) - start >= BLOCK
+    let next = first_unset_in(marks, start, start.saturating_add(BLOCK));
+    next - start >= BLOCK
 }
 
 impl QuietPlaces {
