@@ -129,10 +129,3 @@ ended_judged (Bad e) count known = tt
 pub anyway : {A E P : Type 0} (r : Result A E) → P → OnOk r P
 anyway (Ok x) p = p
 anyway (Err e) p = tt
-
--- what was visited is ready, whatever stands there
-pub ready_visited : (st : Stands) (e v : Bool) → v ≡ true → true ≡ is_ready st e v
-ready_visited IsGone e v on = refl
-ready_visited (IsCell c) e v on = refl
-ready_visited (IsComputed c) true v on = refl
-ready_visited (IsComputed c) false v on = sym on

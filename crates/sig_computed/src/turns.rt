@@ -23,7 +23,7 @@ ghost use Rattle.sig_computed.specs.Turns.{move_by, move_reads, progress_by, tur
 use crate::frames::{Doing, Open, Turn, begin_run};
 use crate::visited::Visited;
 use sig_base::{Known, NoMemory, NodeId, Outcome, Step};
-use sig_graph::{Asked, Graph, Reached, SourceLook, Standing};
+use sig_graph::{Asked, Graph, Reached, SignalLook, SourceLook};
 use sig_host::{Lent, Shelf};
 use signal_model::judged;
 use std::alloc::Global;
@@ -37,17 +37,17 @@ pub(crate) fn is_clean(graph: &mut Graph, id: NodeId) -> bool
     graph.is_clean(id)
 }
 
-// Whether a computed that isn't being evaluated needs no settling first: it was visited, or is clean. Where it is known that it isn't clean
-// it needs no look.
+// Whether a computed that isn't being evaluated needs no settling first: it was visited, or is clean. Where it is told already whether it is
+// clean, it needs no look.
 #[inline(always)]
 fn is_settled(
     graph: &mut Graph,
     visited: &mut Visited,
     id: NodeId,
-    due: bool,
+    told: Option<bool>,
 ) -> Result<bool, NoMemory>
     requires idle { Computed ≡ kind_here (standing graph.old.state.signals id) (is_computing graph.old.state id) }
-    requires unclean { due ≡ true → is_clean_mark (mark_of graph.old.state.signals graph.old.state.memos id) ≡ false }
+    requires told { IfSome told (λ b. b ≡ is_clean_mark (mark_of graph.old.state.signals graph.old.state.memos id)) }
     ensures ready { IfOk result (λ b. b ≡ is_ready (standing graph.old.state.signals id) (is_in id (evaluating graph.old.state)) (is_in id (passed_over graph.old.state.signals graph.old.state.memos visited.old))) }
     ensures after { OnOk result (Stays graph.old graph.new graph.old.state.progress (look_steps (standing graph.old.state.signals id) (is_in id (evaluating graph.old.state)) (is_in id visited.old))) }
     ensures visited { OnOk result ((m : ℕ) → is_in m visited.new ≡ is_in m visited.old) }
@@ -56,26 +56,25 @@ fn is_settled(
     if has {
         return Ok(true);
     }
-    if due {
-        graph.count_step();
-        return Ok(false);
+    match told {
+        Some(clean) => {
+            graph.count_step();
+            Ok(clean)
+        }
+        None => Ok(is_clean(graph, id)),
     }
-    Ok(is_clean(graph, id))
 }
 
-// Whether a source needs no settling first: it is no computed, is being evaluated, was visited, or is clean. What was settled just now needs
-// no look at all.
+// Whether a source needs no settling first: it is no computed, is being evaluated, was visited, or is clean. Mostly one look tells whether it
+// is clean.
 fn is_ready(graph: &mut Graph, visited: &mut Visited, id: NodeId) -> Result<bool, NoMemory>
     ensures ready { IfOk result (λ b. b ≡ is_ready (standing graph.old.state.signals id) (is_in id (evaluating graph.old.state)) (is_in id (passed_over graph.old.state.signals graph.old.state.memos visited.old))) }
     ensures after { OnOk result (Stays graph.old graph.new graph.old.state.progress (look_steps (standing graph.old.state.signals id) (is_in id (evaluating graph.old.state)) (is_in id visited.old))) }
     ensures visited { OnOk result ((m : ℕ) → is_in m visited.new ≡ is_in m visited.old) }
 {
-    if visited.is_last(id) {
-        return Ok(true);
-    }
-    match graph.standing(id) {
-        Standing::Computed => is_settled(graph, visited, id, false),
-        _ => Ok(true),
+    match graph.look_at(id) {
+        SignalLook::Idle(told) => is_settled(graph, visited, id, told),
+        SignalLook::Other => Ok(true),
     }
 }
 
@@ -118,20 +117,20 @@ fn look_into(
     frame: &mut Open,
     place: usize,
     id: NodeId,
-    due: bool,
+    told: Option<bool>,
 ) -> Result<Turn, NoMemory>
     requires name { Some id ≡ first_name (drop place (sources_of graph.old.state.memos frame.old.id)) }
     requires inside { place < length (sources_of graph.old.state.memos frame.old.id) }
     requires small { place < 18446744073709551615 }
     requires idle { Computed ≡ kind_here (standing graph.old.state.signals id) (is_computing graph.old.state id) }
-    requires unclean { due ≡ true → is_clean_mark (mark_of graph.old.state.signals graph.old.state.memos id) ≡ false }
+    requires told { IfSome told (λ b. b ≡ is_clean_mark (mark_of graph.old.state.signals graph.old.state.memos id)) }
     ensures turn { IfOk result (λ t. move_of t frame.new ≡ looked graph.old.state.signals graph.old.state.memos (evaluating graph.old.state) (passed_over graph.old.state.signals graph.old.state.memos visited.old) (holds_cycle graph.old.state.memos frame.old.id) place (drop place (sources_of graph.old.state.memos frame.old.id))) }
     ensures id { OnOk result (frame.new.id ≡ frame.old.id) }
     ensures given { IfOk result (λ t. move_reads (move_of t frame.new) ≡ []) }
     ensures after { IfOk result (λ t. Stays graph.old graph.new graph.old.state.progress (source_steps graph.old.state.signals (evaluating graph.old.state) visited.old (drop place (sources_of graph.old.state.memos frame.old.id)) (move_of t frame.new))) }
     ensures visited { OnOk result ((m : ℕ) → is_in m visited.new ≡ is_in m visited.old) }
 {
-    let ready = is_settled(graph, visited, id, due)?;
+    let ready = is_settled(graph, visited, id, told)?;
     if !ready {
         frame.doing = Doing::LookedAt(place);
         frame.needed = id;
@@ -172,8 +171,8 @@ fn look(
 {
     match graph.look_at_source(frame.id, place) {
         SourceLook::Past => Ok(Turn::Stops),
-        SourceLook::Due(id) => look_into(graph, visited, frame, place, id, true),
-        SourceLook::Marked(id) => look_into(graph, visited, frame, place, id, false),
+        SourceLook::Due(id) => look_into(graph, visited, frame, place, id, Some(false)),
+        SourceLook::Marked(id) => look_into(graph, visited, frame, place, id, None),
         SourceLook::Ready(moved) => Ok(compared(graph, frame, place, moved)),
     }
 }

@@ -126,16 +126,6 @@ impl Visited {
         }
     }
 
-    /// Whether a computed was visited last, which is told without a hash: what was settled just now is mostly what is asked for next.
-    pub(crate) fn is_last(&self, id: NodeId) -> bool
-        ensures { result ≡ true → is_in id self.now ≡ true }
-    {
-        match self.late.last() {
-            Some(last) => *last == id,
-            None => false,
-        }
-    }
-
     // Makes the flags once more than a few were visited, unless they are there, or some are hashed already.
     fn make_flags(&mut self) -> Result<(), NoMemory>
         ensures { OnOk result (self.new ≡ self.old) }

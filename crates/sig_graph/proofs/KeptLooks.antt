@@ -13,7 +13,11 @@ use Rattle.sig_graph.specs.declared.source_looks.SourceLook.TheVariants as look
 use Rattle.sig_graph.specs.Looks.{is_clean_mark}
 use Rattle.sig_graph.specs.Parts.{memos_of, state_of}
 use Rattle.sig_graph.specs.Places.{KeepsMarks}
-use Rattle.sig_graph.specs.SourceLooks.{named, IsLookHere, IsOpenHere, IsOpenSource, IsReadyHere, IsReadySource, IsSourceLook}
+use Rattle.sig_graph.specs.SourceLooks.{named, IsLookHere, IsOpenHere, IsOpenSource, IsReadyHere, IsReadySource, IsSignalLook, IsSignalLookHere, IsSourceLook}
+use Rattle.sig_graph.specs.declared.source_looks.SignalLook.{SignalLook}
+use Rattle.sig_graph.specs.declared.source_looks.SignalLook.TheVariants as signal
+use Rattle.sig_nodes.specs.declared.answers.Standing.TheVariants.{Computed as ComputedKind}
+use Rattle.sig_nodes.specs.Answers.{computed_kind, kind_here}
 use Rattle.sig_nodes.proofs.Shared.{body_got}
 use Rattle.sig_graph.proofs.Consistency.{computed_here}
 use Rattle.sig_graph.proofs.Lookups.{moved_any}
@@ -123,3 +127,28 @@ none_kept xs g n place h = ap (λ m. slice_get (sources_in m) place) (memo_found
     none_at : (i : ℕ) → slice_get {X = Source} [] i ≡ None
     none_at zero = refl
     none_at (suc i) = refl
+
+-- what a look at a signal finds
+pub signal_found : (xs : List Node) (g l w n : ℕ) (r : SignalLook) → IsSignalLookHere xs g n r → IsSignalLook (state_of xs g l w) n r
+signal_found xs g l w n signal.Other h = λ k.
+    other (body_at xs n) h ((λ i. kind_here (sym (stands xs n) i) (is_some (sym (progress_found xs n) i))) ∙ k)
+  where
+    other : (b : Body) → (is_computed_body b && not (is_some (known_body b))) ≡ false → kind_here (stands_of n b) (is_some (known_body b)) ≡ ComputedKind → ⊥
+    other Gone h k = cc
+    other (CellBody v r) h k = cc
+    other (ComputedBody c) h k = busy (is_some c.known) h k
+      where
+        busy : (b : Bool) → not b ≡ false → computed_kind b ≡ ComputedKind → ⊥
+        busy true h k = cc
+        busy false h k = cc
+signal_found xs g l w n (signal.Idle told) h =
+    (idle (body_at xs n) h.0 ∙ (λ i. kind_here (sym (stands xs n) i) (is_some (sym (progress_found xs n) i))), h.1)
+  where
+    idle : (b : Body) → (is_computed_body b && not (is_some (known_body b))) ≡ true → ComputedKind ≡ kind_here (stands_of n b) (is_some (known_body b))
+    idle Gone h = cc
+    idle (CellBody v r) h = cc
+    idle (ComputedBody c) h = free (is_some c.known) h
+      where
+        free : (b : Bool) → not b ≡ true → ComputedKind ≡ computed_kind b
+        free true h = cc
+        free false h = refl

@@ -1,5 +1,5 @@
 -- What a look at a source that a computed keeps finds.
-use Rattle.std.specs.Prelude.{◌≡◌, ℕ, ◌+◌, ◌<◌, ◌^◌, ◌&&◌, not, Bool, true, false, List, Option, Some, None, is_some}
+use Rattle.std.specs.Prelude.{◌≡◌, ℕ, ◌+◌, ◌<◌, ◌^◌, ◌&&◌, not, Bool, true, false, List, Option, Some, None, IfSome, is_some}
 use Rattle.std.specs.Option.{option_map}
 use Rattle.signal_model.specs.Signals.{is_computed, standing}
 use Rattle.signal_model.specs.Memos.{Memo, Source, holds_cycle, memo_is_cycle}
@@ -9,6 +9,11 @@ use Rattle.sig_nodes.specs.declared.node.Node.{Node}
 use Rattle.sig_nodes.specs.Nodes.{body_at, has_moved_body, is_computed_body, known_body}
 use Rattle.sig_graph.specs.declared.source_looks.SourceLook.{SourceLook}
 use Rattle.sig_graph.specs.declared.source_looks.SourceLook.TheVariants as look
+use Rattle.sig_graph.specs.declared.source_looks.SignalLook.{SignalLook}
+use Rattle.sig_graph.specs.declared.source_looks.SignalLook.TheVariants as signal
+use Rattle.sig_nodes.specs.declared.answers.Standing.TheVariants.{Computed as ComputedKind}
+use Rattle.sig_nodes.specs.Answers.{kind_here}
+use Rattle.sig_graph.specs.Parts.{memos_of, signals_of}
 use Rattle.sig_graph.specs.Looks.{has_moved, is_clean_mark}
 use Rattle.sig_graph.specs.Search.{HasDue}
 use Rattle.sig_graph.specs.States.{State, is_computing}
@@ -43,7 +48,20 @@ abbrev pub HasNextPlace : ℕ → SourceLook → Type 0
 HasNextPlace place look.Past = Unit {0}
 HasNextPlace place _ = place + 1 < 2 ^ 64
 
+-- what a look at a signal finds: a computed that isn't being evaluated or not, and whether that is clean
+abbrev pub IsSignalLook : State → ℕ → SignalLook → Type 0
+IsSignalLook s n signal.Other = kind_here (standing s.signals n) (is_computing s n) ≡ ComputedKind → ⊥
+IsSignalLook s n (signal.Idle told) =
+    (ComputedKind ≡ kind_here (standing s.signals n) (is_computing s n)) × IfSome told (λ b. b ≡ is_clean_mark (mark_of s.signals s.memos n))
+
 -- ---- by the nodes
+
+-- what a look at the node of a signal finds
+abbrev pub IsSignalLookHere : List Node → ℕ → ℕ → SignalLook → Type 0
+IsSignalLookHere xs g n signal.Other = (is_computed_body (body_at xs n) && not (is_some (known_body (body_at xs n)))) ≡ false
+IsSignalLookHere xs g n (signal.Idle told) =
+    ((is_computed_body (body_at xs n) && not (is_some (known_body (body_at xs n)))) ≡ true)
+    × IfSome told (λ b. b ≡ is_clean_mark (mark_of (signals_of xs) (memos_of g xs) n))
 
 -- a source that is a computed and isn't being evaluated
 pub record IsOpenHere (xs : List Node) (o : Option Source) (n : ℕ) : Type 0 where

@@ -20,5 +20,5 @@ pub use errors::NodeFault;
 pub use graph::Graph;
 pub use reading::Reached;
 pub use sig_nodes::{Asked, IdList, Mark, Recipe, Standing};
-pub use source_looks::SourceLook;
+pub use source_looks::{SignalLook, SourceLook};
 pub use spares::clear_few;

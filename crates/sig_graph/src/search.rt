@@ -222,8 +222,36 @@ pub(crate) fn finds_below(
     false
 }
 
-/// Whether a computed is clean, as far as it is told without a search: it isn't where it was found that it, or something below it, must
-/// run; it is where it isn't marked; and it isn't where it must run itself. None where a search tells it.
+/// Whether a computed is clean, as far as it is told without a search, by its node: it isn't where it was found that it, or something below
+/// it, must run; it is where it isn't marked; and it isn't where it must run itself. None where a search tells it.
+#[inline(always)]
+pub(crate) fn node_told(
+    nodes: &Nodes,
+    generation: u128,
+    worn: u128,
+    marks: &Marks,
+    finds: &Finds,
+    id: NodeId,
+    node: &Node,
+) -> Option<bool>
+    requires can { CanSearch nodes.now.items generation worn marks.now finds.now id }
+    requires node { slice_get nodes.now.items id ≡ Some node.now }
+    ensures clean { IfSome result (λ b. b ≡ is_clean_mark (mark_of (signals_of nodes.now.items) (memos_of generation nodes.now.items) id)) }
+    ensures calm { IfNone result (is_due_at nodes.now.items generation id ≡ false) }
+{
+    if finds.is_found(worn, node.seat) {
+        return Some(false);
+    }
+    if !marks.is_marked(id) {
+        return Some(true);
+    }
+    if is_node_due(nodes, generation, node) {
+        return Some(false);
+    }
+    None
+}
+
+/// Whether a computed is clean, as far as it is told without a search.
 pub(crate) fn told_clean(
     nodes: &Nodes,
     generation: u128,
@@ -237,18 +265,7 @@ pub(crate) fn told_clean(
     ensures calm { IfNone result (is_due_at nodes.now.items generation id ≡ false) }
 {
     match nodes.at(id) {
-        Some(node) => {
-            if finds.is_found(worn, node.seat) {
-                return Some(false);
-            }
-            if !marks.is_marked(id) {
-                return Some(true);
-            }
-            if is_node_due(nodes, generation, node) {
-                return Some(false);
-            }
-            None
-        }
+        Some(node) => node_told(nodes, generation, worn, marks, finds, id, node),
         None => unreachable!(),
     }
 }

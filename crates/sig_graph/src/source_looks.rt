@@ -7,12 +7,15 @@ ghost use Rattle.sig_nodes.specs.declared.node.Body.TheVariants as body;
 ghost use Rattle.sig_nodes.specs.declared.node.Node.{Node};
 ghost use Rattle.sig_nodes.specs.Nodes.{body_at, has_moved_body, is_computed_body, known_body};
 ghost use Rattle.sig_graph.specs.Looks.{has_moved};
-ghost use Rattle.sig_graph.specs.Places.{KeepsFound};
-ghost use Rattle.sig_graph.specs.SourceLooks.{named, HasNextPlace, IsLookHere, IsSourceLook};
+ghost use Rattle.sig_base.specs.declared.limits.TheConstants.{MOST_NODES};
+ghost use Rattle.sig_graph.specs.Places.{KeepsFound, KeepsMarks};
+ghost use Rattle.sig_graph.specs.Search.{AreSeated};
+ghost use Rattle.sig_graph.specs.SourceLooks.{named, HasNextPlace, IsLookHere, IsSignalLook, IsSignalLookHere, IsSourceLook};
 ghost use Rattle.sig_graph.specs.States.{with_look, Becomes};
 
 use crate::evaluation::count;
 use crate::graph::Graph;
+use crate::search::node_told;
 use sig_base::NodeId;
 use sig_marks::Marks;
 use sig_nodes::{Body, Computation, Node, Nodes, computation_at};
@@ -31,7 +34,17 @@ pub enum SourceLook {
     Ready(bool),
 }
 
+/// What a look at a signal finds.
+#[derive(Clone, Copy)]
+pub enum SignalLook {
+    /// No computed, or one that is being evaluated.
+    Other,
+    /// A computed that isn't being evaluated, and whether it is clean, where that is told without a search.
+    Idle(Option<bool>),
+}
+
 // Whether a computed lives in a node that isn't being evaluated.
+#[inline(always)]
 fn is_idle(node: &Node) -> bool
     ensures { result ≡ (is_computed_body node.now.body && not (is_some (known_body node.now.body))) }
 {
@@ -50,6 +63,7 @@ fn is_found(finds: &Finds, worn: u128, node: &Node) -> bool
 }
 
 // Whether it is one that is marked.
+#[inline(always)]
 fn is_open(marks: &Marks, node: &Node, id: NodeId) -> bool
     ensures { result ≡ ((is_computed_body node.now.body && not (is_some (known_body node.now.body))) && marked_at marks.now.marked id) }
 {
@@ -151,7 +165,49 @@ fn moved_from(
     }
 }
 
+// What a look at a signal finds.
+#[inline(always)]
+fn signal_look(
+    nodes: &Nodes,
+    generation: u128,
+    worn: u128,
+    marks: &Marks,
+    finds: &Finds,
+    id: NodeId,
+) -> SignalLook
+    requires marks { KeepsMarks nodes.now.items generation marks.now }
+    requires seats { AreSeated nodes.now.items MOST_NODES }
+    requires kept { KeepsFound nodes.now.items generation worn finds.now }
+    ensures { IsSignalLookHere nodes.now.items generation id result }
+{
+    let Some(node) = nodes.at(id) else {
+        return SignalLook::Other;
+    };
+    if !is_idle(node) {
+        return SignalLook::Other;
+    }
+    let told = node_told(nodes, generation, worn, marks, finds, id, node);
+    SignalLook::Idle(told)
+}
+
 impl Graph {
+    /// Looks at a signal: of a computed that isn't being evaluated it tells whether it is clean, where that is told without a search. It is no
+    /// counted step, and takes no memory.
+    #[inline(always)]
+    pub fn look_at(&self, id: NodeId) -> SignalLook
+        ensures { IsSignalLook self.now.state id result }
+    {
+        let _count = self.nodes.made();
+        signal_look(
+            &self.nodes,
+            self.generation,
+            self.worn,
+            &self.marks,
+            &self.finds,
+            id,
+        )
+    }
+
     /// Whether the source that a computed keeps at a place has moved, where that is a certain one, which lives, and the computed doesn't hold
     /// `cycle`; none else. It looks at nothing else, so that it is less than a look at the source, and is no counted step.
     #[inline(always)]

@@ -48,12 +48,12 @@ look_into-requires-clause-idle c =
     let is = subst (IsSourceLook s c.args.frame.now.id (slice_get ss c.args.place)) c.in-Due.is c.look_at_source.ensures.look in
     idle_kind (standing s.signals c.in-Due.id) (is_computing s c.in-Due.id) is.0.computed is.0.idle
 
-pub look_into-requires-clause-unclean : goal.look_into-requires-clause-unclean
-look_into-requires-clause-unclean c =
+pub look_into-requires-clause-told : goal.look_into-requires-clause-told
+look_into-requires-clause-told c =
     let s = c.args.graph.now.state in
     let ss = sources_of s.memos c.args.frame.now.id in
     let is = subst (IsSourceLook s c.args.frame.now.id (slice_get ss c.args.place)) c.in-Due.is c.look_at_source.ensures.look in
-    λ d. is.1
+    sym is.1
 
 pub look_into-requires-in-Marked-clause-name : goal.look_into-requires-in-Marked-clause-name
 look_into-requires-in-Marked-clause-name c =
@@ -80,13 +80,6 @@ look_into-requires-in-Marked-clause-idle c =
     let ss = sources_of s.memos c.args.frame.now.id in
     let is = subst (IsSourceLook s c.args.frame.now.id (slice_get ss c.args.place)) c.in-Marked.is c.look_at_source.ensures.look in
     idle_kind (standing s.signals c.in-Marked.id) (is_computing s c.in-Marked.id) is.computed is.idle
-
-pub look_into-requires-in-Marked-clause-unclean : goal.look_into-requires-in-Marked-clause-unclean
-look_into-requires-in-Marked-clause-unclean c =
-    let s = c.args.graph.now.state in
-    let ss = sources_of s.memos c.args.frame.now.id in
-    let is = subst (IsSourceLook s c.args.frame.now.id (slice_get ss c.args.place)) c.in-Marked.is c.look_at_source.ensures.look in
-    λ d. cc
 
 pub compared-requires-clause-small : goal.compared-requires-clause-small
 compared-requires-clause-small c =
