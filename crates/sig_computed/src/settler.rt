@@ -1,5 +1,5 @@
 // Settling by a loop over a stack of frames, so its depth rests on no machine stack.
-ghost use Rattle.std.specs.Prelude.{◌≡◌, ◌+◌, ◌*◌, ◌<◌, ◌≤◌, ◌^◌, ◌++◌, ◌∷◌, ℕ, [], List, true, false, None, Some, IfOk, IfSome, OnOk, map, reverse, length, vec_len};
+ghost use Rattle.std.specs.Prelude.{◌≡◌, ◌+◌, ◌*◌, ◌<◌, ◌≤◌, ◌^◌, ◌++◌, ◌∷◌, ℕ, [], List, true, false, None, Some, IfOk, IfSome, OnOk, map, reverse, length, vec_capacity, vec_len};
 ghost use Rattle.std.specs.List.{All};
 ghost use Rattle.sig_base.specs.declared.value.Outcome.{Outcome};
 ghost use Rattle.sig_base.specs.declared.value.Outcome.TheVariants.{Good};
@@ -83,14 +83,33 @@ fn int_of(outcome: &Outcome) -> Option<i64>
     }
 }
 
-// Takes an outcome; what stands in its place then doesn't count. A whole number is copied, which is less than to put something in its place.
+// Notes a run in room that is there. The note has the outcome that stood in its place, in which another one stands then.
+#[inline(never)]
+fn note_other(notes: &mut Vec<RunNote>, id: NodeId, reads: IdList, outcome: &mut Outcome)
+    requires { vec_len notes.old < vec_capacity notes.old }
+    ensures { notes.new.items ≡ notes.old.items ++ (record { id = id; reads = reads; outcome = outcome.old }) ∷ [] }
+{
+    let noted = mem::replace(outcome, Outcome::Bad(Fault::Cycle));
+    notes.push_reserved(RunNote {
+        id,
+        reads,
+        outcome: noted,
+    });
+}
+
+// The same, where what stands in the place then doesn't count. A whole number is copied, which is less than to put something in its place.
 #[inline(always)]
-fn take_outcome(outcome: &mut Outcome) -> Outcome
-    ensures { result ≡ outcome.old }
+fn note(notes: &mut Vec<RunNote>, id: NodeId, reads: IdList, outcome: &mut Outcome)
+    requires { vec_len notes.old < vec_capacity notes.old }
+    ensures { notes.new.items ≡ notes.old.items ++ (record { id = id; reads = reads; outcome = outcome.old }) ∷ [] }
 {
     match int_of(outcome) {
-        Some(n) => Outcome::Good(Value::Int(n)),
-        None => mem::replace(outcome, Outcome::Bad(Fault::Cycle)),
+        Some(n) => notes.push_reserved(RunNote {
+            id,
+            reads,
+            outcome: Outcome::Good(Value::Int(n)),
+        }),
+        None => note_other(notes, id, reads, outcome),
     }
 }
 
@@ -111,12 +130,7 @@ fn keep(
 {
     notes.reserve(1)?;
     let reads = keep_in(graph, node, names, outcome)?;
-    let noted = take_outcome(outcome);
-    notes.push_reserved(RunNote {
-        id: node,
-        reads,
-        outcome: noted,
-    });
+    note(notes, node, reads, outcome);
     Ok(())
 }
 
