@@ -32,6 +32,11 @@ learnt_nothing (doing.LookedAt place) l known reads = refl
 learnt_nothing doing.Running l known reads = (λ i. Running (known i) (reads i))
 learnt_nothing (doing.Waiting slot) l known reads = (λ i. Waiting slot (known i) (reads i))
 
+-- where nothing is known nothing was read
+pub unseen : (ns : List ℕ) → good_seen ns [] ≡ []
+unseen [] = refl
+unseen (n ∷ ns) = refl
+
 -- the ids of what was read are those
 pub seen_names : (ns : List ℕ) (ks : List Known) → length ns ≡ length ks → names_of (good_seen ns ks) ≡ ns
 seen_names [] ks h = refl

@@ -108,6 +108,15 @@ impl Learnt {
         &self.reads
     }
 
+    // Whether it has learnt nothing.
+    #[inline(always)]
+    fn is_nothing(&self) -> bool
+        ensures known { result ≡ true → self.now.known ≡ [] }
+        ensures reads { result ≡ true → self.now.reads ≡ [] }
+    {
+        self.known.is_empty()
+    }
+
     /// A signal was read as a good value, which makes a slot known.
     pub(crate) fn learn(&mut self, id: NodeId, slot: u32, value: Value) -> Result<(), NoMemory>
         ensures known { OnOk result (self.new.known ≡ learnt self.old.known slot value) }
@@ -159,6 +168,7 @@ impl Learnt {
     }
 
     // It has learnt nothing. The lists keep their room, so that what is learnt next asks for no memory where that had enough.
+    #[inline(always)]
     fn forget(&mut self)
         ensures known { self.new.known ≡ [] }
         ensures reads { self.new.reads ≡ [] }
@@ -220,7 +230,7 @@ fn put_aside(
     Ok(aside)
 }
 
-// What a frame has learnt is kept apart while it waits, unless it looks, where that doesn't count.
+// What a frame has learnt is kept apart while it waits, unless that is nothing, or it looks, where that doesn't count.
 fn take_learnt(alloc: Global, frame: &mut Open) -> Result<Option<Box<Learnt>>, NoMemory>
     ensures phase { IfOk result (λ aside. outer_phase frame.old.doing aside ≡ phase_of frame.old.doing frame.old.learnt) }
     ensures id { OnOk result (frame.new.id ≡ frame.old.id) }
@@ -231,6 +241,9 @@ fn take_learnt(alloc: Global, frame: &mut Open) -> Result<Option<Box<Learnt>>, N
         Doing::Looking(_) => Ok(None),
         Doing::LookedAt(_) => Ok(None),
         _ => {
+            if frame.learnt.is_nothing() {
+                return Ok(None);
+            }
             let aside = put_aside(alloc, &mut frame.spares, &mut frame.learnt)?;
             Ok(Some(aside))
         }

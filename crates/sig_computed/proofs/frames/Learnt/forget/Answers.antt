@@ -1,7 +1,8 @@
-use Rattle.std.proofs.Common.{◌≡◌, ℕ, List, [], ◌∷◌, refl, sym, ap, ◌∙◌, arith}
+use Rattle.std.proofs.Common.{◌≡◌, List, [], sym, ap, ◌∙◌, arith}
 use Rattle.std.proofs.lemmas.Bool.{eqb-true}
 use Rattle.std.proofs.lemmas.List.{nil_from_length}
 use Rattle.sig_computed.specs.Lessons.{Lesson, good_seen}
+use Rattle.sig_computed.proofs.Asides.{unseen}
 use Rattle.sig_computed.proofs.frames.Learnt.forget.Goals as goal
 
 pub returns-then-is_empty : goal.returns-then-is_empty
@@ -14,7 +15,3 @@ returns-then-is_empty c =
       known = ap (λ (l : Lesson). l.known) (sym c.self.view_is) ∙ none;
       reads = ap (λ (l : Lesson). l.reads) (sym c.self.view_is) ∙ ap (good_seen ns) none ∙ unseen ns;
     }
-  where
-    unseen : (ns : List ℕ) → good_seen ns [] ≡ []
-    unseen [] = refl
-    unseen (n ∷ ns) = refl
