@@ -157,6 +157,7 @@ impl Graph {
     }
 
     /// Gives a cell another value, and gives back the one before. It takes no memory.
+    #[inline(always)]
     pub fn replace(&mut self, id: NodeId, value: Value) -> Value
         requires live { is_cell (standing self.old.state.signals id) ≡ true }
         requires worn { CanWear self.old.state }

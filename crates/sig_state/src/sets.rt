@@ -1,5 +1,6 @@
 // Sets of cells.
 ghost use Rattle.std.specs.Prelude.{◌≡◌, ◌<◌, ◌^◌, ◌↔◌, ℕ, true, false, None, Some, Ok, IsErr, length, map};
+ghost use Rattle.sig_base.specs.Values.{same_value};
 ghost use Rattle.signal_model.specs.Signals.{is_computed, is_there, standing};
 ghost use Rattle.effect_model.specs.Acts.{are_alike};
 ghost use Rattle.sig_nodes.specs.Answers.{value_here};
@@ -21,18 +22,31 @@ pub enum SetDone {
     Same,
 }
 
+// Whether two values are the same. Most are whole numbers, which are compared at once.
+#[inline(always)]
+fn is_same(a: &Value, b: &Value) -> bool
+    ensures { result ≡ same_value a.now b.now }
+{
+    match (a, b) {
+        (Value::Int(m), Value::Int(n)) => m == n,
+        _ => a.same(b),
+    }
+}
+
 // Whether two values count as equal by a rule; with no rule they do where they are the same.
+#[inline(always)]
 pub(crate) fn are_alike(rules: &[EqualsRule], rule: Option<usize>, a: &Value, b: &Value) -> bool
     requires { (r : ℕ) → rule ≡ Some r → r < length rules.now }
     ensures { result ≡ are_alike (map (λ r. r.slack) rules.now) rule a.now b.now }
 {
     match rule {
-        None => a.same(b),
+        None => is_same(a, b),
         Some(place) => rules[place].holds(a, b),
     }
 }
 
 // Gives a cell a value, and gives back the one before; none where the cell's equality calls the two the same, and then nothing changes.
+#[inline(always)]
 pub(crate) fn exchange(
     graph: &mut Graph,
     rules: &[EqualsRule],
@@ -60,6 +74,7 @@ pub(crate) fn exchange(
 
 /// Gives a cell a value. It is refused where the cell is gone; where its equality calls the value the same as the one that it has,
 /// nothing changes: that of its rule, which is one of these, or sameness where it has none. It takes no memory.
+#[inline(always)]
 pub fn set(
     graph: &mut Graph,
     rules: &[EqualsRule],
