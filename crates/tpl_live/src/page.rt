@@ -55,14 +55,6 @@ impl Drop for Page {
     }
 }
 
-// What is kept of the lines that were brought up to date.
-fn memo_in(renewed: Box<Renewed>) -> PageMemo
-    ensures { result ≡ renewed.value.memo }
-{
-    let Renewed { memo, .. } = Box::into_inner(renewed);
-    memo
-}
-
 impl Page {
     /// Its tree.
     pub fn tree(&self) -> &Tree
@@ -191,13 +183,13 @@ impl Page {
             None,
             notes,
         )?;
-        let renewed = Box::new(alloc, fresh)?;
+        let Renewed { memo, change } = fresh;
+        let blank = Box::replace(&mut self.memo, memo);
+        drop(blank);
         hearing.heard.good();
-        let ops = carry(alloc, &self.lines, &renewed, &mut self.nodes)?;
-        let memo = Box::new(alloc, memo_in(renewed))?;
+        let ops = carry(alloc, &self.lines, &self.memo, &change, &mut self.nodes)?;
         let Rehearing { heard, .. } = hearing;
         self.heard = heard;
-        self.memo = memo;
         Ok(ops)
     }
 }

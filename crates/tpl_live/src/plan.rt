@@ -1,5 +1,6 @@
 // How a page comes up to date: the numbers of its nodes, and the operations that lead to the next tree, all read from the tree that stands.
 ghost use Rattle.std.specs.Prelude.{◌≡◌, ◌<◌, ◌^◌, ◌+◌, ◌++◌, ◌∷◌, [], length, map, slice_get, IfOk, OnOk};
+ghost use Rattle.std.specs.List.{flat_map};
 ghost use Rattle.page_model.specs.Forest.{Forest, keys, node, none};
 ghost use Rattle.page_model.specs.Labels.{Kind, Root};
 ghost use Rattle.page_model.specs.Pages.{NumberedPage, IsPage, new_order, page_shape, renumbered, tree_of};
@@ -11,6 +12,7 @@ ghost use Rattle.tpl_model.specs.KeptLines.Changes.{changed};
 ghost use Rattle.tpl_drawn.specs.Addresses.{coming_below, noted_from, number_at};
 ghost use Rattle.tpl_drawn.specs.Lines.{line_at, lined_from};
 ghost use Rattle.tpl_model.specs.KeptLines.Kept.{kept};
+ghost use Rattle.tpl_patch.specs.Attributes.{mark_told};
 ghost use Rattle.tpl_patch.specs.Moves.{AllFit, AllSound, number_behind};
 ghost use Rattle.tpl_model.specs.ShownNodes.Addresses.{address_of};
 ghost use Rattle.tpl_model.specs.ShownNodes.Shapes.{all_shown, child_of, mark_of};
@@ -23,7 +25,6 @@ use sig_base::NoMemory;
 use std::alloc::Global;
 use tpl_blocks::Block;
 use tpl_drawn::{Compared, Numbers, PageNodes, compared, put_addresses, put_coming, put_shown};
-use tpl_kept::Renewed;
 use tpl_model::{Address, Change, Child, Mark, PageMemo, Shown};
 use tpl_patch::{put_looks, put_moves, removals};
 
@@ -68,7 +69,8 @@ fn numbers_of(
 
 // Notes what came under the numbers from this one on, once a tree has come to show what is kept of these lines. Where most of what is noted may be
 // gone, the numbers are read off anew.
-fn renumber(
+#[inline(never)]
+fn note_coming(
     alloc: Global,
     lines: &Block,
     memo: &PageMemo,
@@ -88,6 +90,30 @@ fn renumber(
     if numbers.is_crowded() {
         *numbers = numbers_of(alloc, lines, memo, tree)?;
     }
+    Ok(())
+}
+
+// So it is where anything came; otherwise the numbers stay as they are.
+fn renumber(
+    alloc: Global,
+    lines: &Block,
+    memo: &PageMemo,
+    tree: &Tree,
+    coming: Vec<Address>,
+    from: u64,
+    numbers: &mut Numbers,
+) -> Result<(), NoMemory>
+    requires many { length (keys (shown_in (block lines.now) (kept memo.now))) + 1 ≡ length (keys tree.now) }
+    requires room { from + length coming.items < 2 ^ 64 }
+    ensures lines { (p : NumberedPage) → IsPage p → page_shape p ≡ lines_shape (block lines.now) (kept memo.now) → tree.now ≡ tree_of p →
+        AreLined p (lined_from coming.items from (line_at numbers.old)) → OnOk result (AreLined p (line_at numbers.new)) }
+    ensures numbers { (p : NumberedPage) → IsPage p → page_shape p ≡ lines_shape (block lines.now) (kept memo.now) → tree.now ≡ tree_of p →
+        AreKnown p tree.now (noted_from coming.items from (number_at numbers.old)) → OnOk result (AreKnown p tree.now (number_at numbers.new)) }
+{
+    if coming.is_empty() {
+        return Ok(());
+    }
+    note_coming(alloc, lines, memo, tree, coming, from, numbers)?;
     Ok(())
 }
 
@@ -206,9 +232,27 @@ pub struct Plan {
     pub next: u64,
 }
 
+// The operations where the children of no node differ: what nodes say otherwise.
+fn said_otherwise(
+    alloc: Global,
+    tree: &Tree,
+    next: u64,
+    restated: &[Mark],
+) -> Result<Plan, NoMemory>
+    ensures next { IfOk result (λ p. p.next ≡ next) }
+    ensures coming { IfOk result (λ p. p.coming.items ≡ []) }
+    ensures ops { IfOk result (λ p. map op_of p.ops.items ≡ flat_map (mark_told tree.now) (map mark_of restated.now)) }
+{
+    let mut ops = Vec::new(alloc);
+    put_looks(tree, restated, &mut ops)?;
+    let coming = Vec::new(alloc);
+    Ok(Plan { ops, coming, next })
+}
+
 // The operations that lead from a tree to the next one, by the marks of the nodes whose children may differ and of those that may say something
 // else: removals, then what is done to the children of each, then texts and attributes. What comes has the numbers from `next` on.
-fn operations(
+#[inline(never)]
+fn all_operations(
     alloc: Global,
     tree: &Tree,
     next: u64,
@@ -233,6 +277,28 @@ fn operations(
         coming,
         next: behind,
     })
+}
+
+// So they are; where no node is marked for its children, no list of these is made.
+fn operations(
+    alloc: Global,
+    tree: &Tree,
+    next: u64,
+    touched: Vec<Mark>,
+    restated: &[Mark],
+) -> Result<Plan, NoMemory>
+    requires { AllSound (map mark_of touched.items) }
+    ensures next { IfOk result (λ p. p.next ≡ number_behind next (map mark_of touched.items)) }
+    ensures coming { IfOk result (λ p. map address_of p.coming.items ≡ coming_below (map mark_of touched.items)) }
+    ensures ops { (after : Forest Kind) → AllFit tree.now next (map mark_of touched.items) after →
+        IfOk result (λ p. map op_of p.ops.items ≡ ops_towards tree.now after (map mark_of touched.items) (map mark_of restated.now)) }
+{
+    if touched.is_empty() {
+        let plan = said_otherwise(alloc, tree, next, restated)?;
+        return Ok(plan);
+    }
+    let plan = all_operations(alloc, tree, next, touched, restated)?;
+    Ok(plan)
 }
 
 // The operations from a page to what lines show next, by what is kept of these lines and what became of it.
@@ -281,26 +347,27 @@ pub fn apply_all(alloc: Global, tree: &mut Tree, ops: &[Op]) -> Result<(), NoMem
 pub fn carry(
     alloc: Global,
     lines: &Block,
-    renewed: &Renewed,
+    memo: &PageMemo,
+    change: &Change,
     nodes: &mut PageNodes,
 ) -> Result<Vec<Op>, NoMemory>
-    requires { CanCompare (block lines.now) (kept renewed.now.memo) (changed renewed.now.change) (number_at nodes.old.numbers) nodes.old.tree nodes.old.next }
+    requires { CanCompare (block lines.now) (kept memo.now) (changed change.now) (number_at nodes.old.numbers) nodes.old.tree nodes.old.next }
     ensures lines { (p : NumberedPage) →
-        Compares p (block lines.now) (kept renewed.now.memo) (changed renewed.now.change) (number_at nodes.old.numbers) nodes.old.tree nodes.old.next →
+        Compares p (block lines.now) (kept memo.now) (changed change.now) (number_at nodes.old.numbers) nodes.old.tree nodes.old.next →
         AreLined p (line_at nodes.old.numbers) →
-        OnOk result (AreLined (renumbered p (lines_shape (block lines.now) (kept renewed.now.memo))) (line_at nodes.new.numbers)) }
+        OnOk result (AreLined (renumbered p (lines_shape (block lines.now) (kept memo.now))) (line_at nodes.new.numbers)) }
     ensures carries { (p : NumberedPage) →
-        Compares p (block lines.now) (kept renewed.now.memo) (changed renewed.now.change) (number_at nodes.old.numbers) nodes.old.tree nodes.old.next →
-        IfOk result (λ ops. Carries p (lines_shape (block lines.now) (kept renewed.now.memo)) (map op_of ops.items) nodes.new.next nodes.new.tree
+        Compares p (block lines.now) (kept memo.now) (changed change.now) (number_at nodes.old.numbers) nodes.old.tree nodes.old.next →
+        IfOk result (λ ops. Carries p (lines_shape (block lines.now) (kept memo.now)) (map op_of ops.items) nodes.new.next nodes.new.tree
         (number_at nodes.new.numbers)) }
 {
-    let plan = planned(alloc, lines, &renewed.memo, &renewed.change, nodes)?;
+    let plan = planned(alloc, lines, memo, change, nodes)?;
     let Plan { ops, coming, next } = plan;
     apply_all(alloc, &mut nodes.tree, &ops)?;
     renumber(
         alloc,
         lines,
-        &renewed.memo,
+        memo,
         &nodes.tree,
         coming,
         nodes.next,

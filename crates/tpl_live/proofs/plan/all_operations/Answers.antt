@@ -6,7 +6,7 @@ use Rattle.page_ops.specs.Ops.{op_of}
 use Rattle.tpl_model.specs.NextPage.Lookups.{gone_numbers}
 use Rattle.tpl_model.specs.ShownNodes.Shapes.{mark_of}
 use Rattle.tpl_live.proofs.Planned.{planned}
-use Rattle.tpl_live.proofs.plan.operations.Goals as goal
+use Rattle.tpl_live.proofs.plan.all_operations.Goals as goal
 
 pub returns-clause-ops : goal.returns-clause-ops
 returns-clause-ops c = λ after fit.

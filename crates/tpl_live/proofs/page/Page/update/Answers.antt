@@ -56,10 +56,10 @@ carry-requires g c =
     c.in_ok-fresh.ensures.after.grows (rw (c.deref.ensures, c.deref-2.ensures.value) at c.in_ok-fresh.ensures.made) c.good.ensures in
     let change = changed c.in_ok-fresh.fresh.change in
     let told : Tells s.lines s.links None s.heard m change = rw (c.deref.ensures, c.deref-2.ensures.value) at c.in_ok-fresh.ensures.told in
-    rw (c.deref-3.ensures, c.deref-4.ensures, c.in_ok-renewed.ensures.ok) (record { old = page_in s; compares = compares_there lines links s c.renew.new.hearing.heard m change st made told })
+    rw (c.deref-3.ensures, c.deref-4.ensures, c.replace-blank.ensures.after) (record { old = page_in s; compares = compares_there lines links s c.renew.new.hearing.heard m change st made told })
 
 pub returns-clause-stands : goal.returns-clause-stands
-returns-clause-stands g c = rw (c.in_ok-memo.ensures.ok, c.memo_in.ensures, c.in_ok-renewed.ensures.ok) (λ lines links st.
+returns-clause-stands g c = rw c.replace-blank.ensures.after (λ lines links st.
     let s = standing c.args.self.now in
     let m = kept c.in_ok-fresh.fresh.memo in
     let made : AreMade lines links c.renew.new.hearing.heard m =
@@ -67,15 +67,15 @@ returns-clause-stands g c = rw (c.in_ok-memo.ensures.ok, c.memo_in.ensures, c.in
     c.in_ok-fresh.ensures.after.grows (rw (c.deref.ensures, c.deref-2.ensures.value) at c.in_ok-fresh.ensures.made) c.good.ensures in
     let change = changed c.in_ok-fresh.fresh.change in
     let told : Tells s.lines s.links None s.heard m change = rw (c.deref.ensures, c.deref-2.ensures.value) at c.in_ok-fresh.ensures.told in
-    let carried = (rw (c.deref-3.ensures, c.deref-4.ensures, c.in_ok-renewed.ensures.ok) at c.in_ok-ops.ensures.carries) (page_in s) (compares_there lines links s c.renew.new.hearing.heard m change st made told) in
+    let carried = (rw (c.deref-3.ensures, c.deref-4.ensures, c.replace-blank.ensures.after) at c.in_ok-ops.ensures.carries) (page_in s) (compares_there lines links s c.renew.new.hearing.heard m change st made told) in
     let os = map op_of c.in_ok-ops.ops.items in
     let next = c.carry.new.nodes.next in
     let number = number_at c.carry.new.nodes.numbers in
     let line = line_at c.carry.new.nodes.numbers in
-    let there : Compares (page_in s) (block c.deref-3.result.now) (kept c.deref-4.result.now.memo) (changed c.deref-4.result.now.change) s.number s.tree s.next =
-    rw (c.deref-3.ensures, c.deref-4.ensures, c.in_ok-renewed.ensures.ok) (compares_there lines links s c.renew.new.hearing.heard m change st made told) in
-    let same_shape : lines_shape (block c.deref-3.result.now) (kept c.deref-4.result.now.memo) ≡ lines_shape s.lines m =
-    rw (c.deref-3.ensures, c.deref-4.ensures, c.in_ok-renewed.ensures.ok) refl in
+    let there : Compares (page_in s) (block c.deref-3.result.now) (kept c.deref-4.result.now) (changed c.in_ok-fresh.fresh.change) s.number s.tree s.next =
+    rw (c.deref-3.ensures, c.deref-4.ensures, c.replace-blank.ensures.after) (compares_there lines links s c.renew.new.hearing.heard m change st made told) in
+    let same_shape : lines_shape (block c.deref-3.result.now) (kept c.deref-4.result.now) ≡ lines_shape s.lines m =
+    rw (c.deref-3.ensures, c.deref-4.ensures, c.replace-blank.ensures.after) refl in
     let lined = subst (λ z. AreLined (renumbered (page_in s) z) line) same_shape (c.in_ok-ops.ensures.lines (page_in s) there st.lined) in
     (next_stands lines links s c.renew.new.hearing.heard m next c.carry.new.nodes.tree number line os st made carried lined).stands)
 
@@ -88,18 +88,17 @@ returns-clause-page g c = λ lines links st hosts all stay.
     c.in_ok-fresh.ensures.after.grows (rw (c.deref.ensures, c.deref-2.ensures.value) at c.in_ok-fresh.ensures.made) c.good.ensures in
     let change = changed c.in_ok-fresh.fresh.change in
     let told : Tells s.lines s.links None s.heard m change = rw (c.deref.ensures, c.deref-2.ensures.value) at c.in_ok-fresh.ensures.told in
-    let carried = (rw (c.deref-3.ensures, c.deref-4.ensures, c.in_ok-renewed.ensures.ok) at c.in_ok-ops.ensures.carries) (page_in s) (compares_there lines links s c.renew.new.hearing.heard m change st made told) in
+    let carried = (rw (c.deref-3.ensures, c.deref-4.ensures, c.replace-blank.ensures.after) at c.in_ok-ops.ensures.carries) (page_in s) (compares_there lines links s c.renew.new.hearing.heard m change st made told) in
     let os = map op_of c.in_ok-ops.ops.items in
     let next = c.carry.new.nodes.next in
     let number = number_at c.carry.new.nodes.numbers in
     let line = line_at c.carry.new.nodes.numbers in
-    let there : Compares (page_in s) (block c.deref-3.result.now) (kept c.deref-4.result.now.memo) (changed c.deref-4.result.now.change) s.number s.tree s.next =
-    rw (c.deref-3.ensures, c.deref-4.ensures, c.in_ok-renewed.ensures.ok) (compares_there lines links s c.renew.new.hearing.heard m change st made told) in
-    let same_shape : lines_shape (block c.deref-3.result.now) (kept c.deref-4.result.now.memo) ≡ lines_shape s.lines m =
-    rw (c.deref-3.ensures, c.deref-4.ensures, c.in_ok-renewed.ensures.ok) refl in
+    let there : Compares (page_in s) (block c.deref-3.result.now) (kept c.deref-4.result.now) (changed c.in_ok-fresh.fresh.change) s.number s.tree s.next =
+    rw (c.deref-3.ensures, c.deref-4.ensures, c.replace-blank.ensures.after) (compares_there lines links s c.renew.new.hearing.heard m change st made told) in
+    let same_shape : lines_shape (block c.deref-3.result.now) (kept c.deref-4.result.now) ≡ lines_shape s.lines m =
+    rw (c.deref-3.ensures, c.deref-4.ensures, c.replace-blank.ensures.after) refl in
     let lined = subst (λ z. AreLined (renumbered (page_in s) z) line) same_shape (c.in_ok-ops.ensures.lines (page_in s) there st.lined) in
-    let same = ap kept (rw (c.memo_in.ensures, c.in_ok-renewed.ensures.ok) at c.in_ok-memo.ensures.ok) in
-    ap (λ z. page_in (next_of s c.renew.new.hearing.heard z next c.carry.new.nodes.tree number line)) same
+    ap (λ z. page_in (next_of s c.renew.new.hearing.heard z next c.carry.new.nodes.tree number line)) (ap kept c.replace-blank.ensures.after)
     ∙ (is_carried _ _ _ _ lines links [] c.renew.new.hearing.heard s m next c.carry.new.nodes.tree number line os hosts refl
     (then_heard _ _ _ _ _ _ _ _ _ (front_heard _ _ _ _ _ s.heard c.in-Some.front c.in-Some.is c.in_ok-front.ensures.after) c.in_ok-fresh.ensures.after) all stay st made carried lined).page
 
@@ -112,15 +111,15 @@ returns-clause-ops g c = λ lines links st hosts all stay.
     c.in_ok-fresh.ensures.after.grows (rw (c.deref.ensures, c.deref-2.ensures.value) at c.in_ok-fresh.ensures.made) c.good.ensures in
     let change = changed c.in_ok-fresh.fresh.change in
     let told : Tells s.lines s.links None s.heard m change = rw (c.deref.ensures, c.deref-2.ensures.value) at c.in_ok-fresh.ensures.told in
-    let carried = (rw (c.deref-3.ensures, c.deref-4.ensures, c.in_ok-renewed.ensures.ok) at c.in_ok-ops.ensures.carries) (page_in s) (compares_there lines links s c.renew.new.hearing.heard m change st made told) in
+    let carried = (rw (c.deref-3.ensures, c.deref-4.ensures, c.replace-blank.ensures.after) at c.in_ok-ops.ensures.carries) (page_in s) (compares_there lines links s c.renew.new.hearing.heard m change st made told) in
     let os = map op_of c.in_ok-ops.ops.items in
     let next = c.carry.new.nodes.next in
     let number = number_at c.carry.new.nodes.numbers in
     let line = line_at c.carry.new.nodes.numbers in
-    let there : Compares (page_in s) (block c.deref-3.result.now) (kept c.deref-4.result.now.memo) (changed c.deref-4.result.now.change) s.number s.tree s.next =
-    rw (c.deref-3.ensures, c.deref-4.ensures, c.in_ok-renewed.ensures.ok) (compares_there lines links s c.renew.new.hearing.heard m change st made told) in
-    let same_shape : lines_shape (block c.deref-3.result.now) (kept c.deref-4.result.now.memo) ≡ lines_shape s.lines m =
-    rw (c.deref-3.ensures, c.deref-4.ensures, c.in_ok-renewed.ensures.ok) refl in
+    let there : Compares (page_in s) (block c.deref-3.result.now) (kept c.deref-4.result.now) (changed c.in_ok-fresh.fresh.change) s.number s.tree s.next =
+    rw (c.deref-3.ensures, c.deref-4.ensures, c.replace-blank.ensures.after) (compares_there lines links s c.renew.new.hearing.heard m change st made told) in
+    let same_shape : lines_shape (block c.deref-3.result.now) (kept c.deref-4.result.now) ≡ lines_shape s.lines m =
+    rw (c.deref-3.ensures, c.deref-4.ensures, c.replace-blank.ensures.after) refl in
     let lined = subst (λ z. AreLined (renumbered (page_in s) z) line) same_shape (c.in_ok-ops.ensures.lines (page_in s) there st.lined) in
     (is_carried _ _ _ _ lines links [] c.renew.new.hearing.heard s m next c.carry.new.nodes.tree number line os hosts refl
     (then_heard _ _ _ _ _ _ _ _ _ (front_heard _ _ _ _ _ s.heard c.in-Some.front c.in-Some.is c.in_ok-front.ensures.after) c.in_ok-fresh.ensures.after) all stay st made carried lined).ops
