@@ -12,5 +12,6 @@ mod Commonest
 mod Briefs
 mod Plain
 mod Operations
+mod Chains
 mod TemplateNumbers
 pub mod Shared

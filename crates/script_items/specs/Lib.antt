@@ -4,3 +4,4 @@ pub mod Known
 pub mod Views
 pub mod Briefs
 pub mod Operations
+pub mod Chains

@@ -2,8 +2,9 @@
 ghost use Rattle.std.specs.Prelude.{◌≡◌, ◌∷◌, ◌++◌, ℕ, codes, IfOk, IfSome};
 ghost use Rattle.script_items.specs.Views.{IsPlain};
 
+use crate::chain::chained;
 use crate::known::KnownNames;
-use crate::operation::computed;
+use crate::operation;
 use crate::short::short;
 use line_forms::Unread;
 use live_cmd::{Bare, Command, Item, Verb};
@@ -66,6 +67,16 @@ fn cell(alloc: Global, known: &mut KnownNames, text: &[u8]) -> Result<Item, Unre
         equals,
         inside,
     }))
+}
+
+// `computed N = A o B ..`, behind the word and a blank. One of one operator is looked for before all others.
+fn computed(alloc: Global, known: &mut KnownNames, text: &[u8]) -> Result<Item, Unread>
+    ensures { (k : ℕ) → IfOk result (λ i. IsPlain (k, codes "computed " ++ text.now) i) }
+{
+    match operation::computed(alloc, known, text) {
+        Err(Unread::NotThere) => chained(alloc, known, text),
+        told => told,
+    }
 }
 
 // `flush`.

@@ -2,6 +2,7 @@
 #![tactic(auto)]
 
 mod block;
+mod chain;
 mod common;
 mod contents;
 mod item;

@@ -15,7 +15,7 @@ use crate::short::short;
 use formula_text::Wired;
 use line_forms::{Unread, put_new_name, slot_of};
 use live_cmd::{Command, Item, SourceText};
-use sig_base::{MOST_NAME, Name, NoMemory, Scalar};
+use sig_base::{MOST_HEIGHT, MOST_NAME, Name, NoMemory, Scalar};
 use sig_formula::{BinOp, Formula};
 use std::alloc::Global;
 
@@ -27,9 +27,13 @@ pub enum Operand {
     Value(Scalar),
 }
 
-// What bytes are beside an operator.
+/// What bytes are beside an operator.
 #[tactic(auto, using(crate::proofs::Operations::value_operand, crate::proofs::Operations::name_operand))]
-fn operand_of(alloc: Global, known: &mut KnownNames, text: &[u8]) -> Result<Operand, Unread>
+pub(crate) fn operand_of(
+    alloc: Global,
+    known: &mut KnownNames,
+    text: &[u8],
+) -> Result<Operand, Unread>
     ensures { IfOk result (λ o. IsOperand text.now o) }
 {
     if MOST_NAME < text.len() {
@@ -58,8 +62,8 @@ fn operator_of(text: &[u8]) -> Option<BinOp>
     }
 }
 
-// Appends the name of an operand, if it is one that isn't there yet.
-fn put_name(names: &mut Vec<Name>, operand: &Operand) -> Result<(), NoMemory>
+/// Appends the name of an operand, if it is one that isn't there yet.
+pub(crate) fn put_name(names: &mut Vec<Name>, operand: &Operand) -> Result<(), NoMemory>
     ensures { OnOk result (names.new.items ≡ with_leaf names.old.items (leaf_of operand.now)) }
 {
     match operand {
@@ -68,9 +72,9 @@ fn put_name(names: &mut Vec<Name>, operand: &Operand) -> Result<(), NoMemory>
     }
 }
 
-// The formula of an operand over the places of names.
-fn formula_of(names: &[Name], operand: Operand) -> Formula
-    requires { length names.now ≤ 2 }
+/// The formula of an operand over the places of few names.
+pub(crate) fn formula_of(names: &[Name], operand: Operand) -> Formula
+    requires { length names.now ≤ MOST_HEIGHT }
     ensures { tree result ≡ leaf_tree names.now (leaf_of operand) }
 {
     match operand {
@@ -79,8 +83,8 @@ fn formula_of(names: &[Name], operand: Operand) -> Formula
     }
 }
 
-// A formula in a box.
-fn boxed(alloc: Global, formula: Formula) -> Result<Box<Formula>, NoMemory>
+/// A formula in a box.
+pub(crate) fn boxed(alloc: Global, formula: Formula) -> Result<Box<Formula>, NoMemory>
     ensures { IfOk result (λ b. b.value ≡ formula) }
 {
     let held = Box::new(alloc, formula)?;
