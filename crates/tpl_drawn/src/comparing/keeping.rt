@@ -3,11 +3,26 @@ ghost use Rattle.std.specs.Prelude.{◌≡◌, map};
 ghost use Rattle.tpl_blocks.specs.Blocks.{block};
 ghost use Rattle.tpl_drawn.specs.Comparison.{keeps_nodes};
 ghost use Rattle.tpl_model.specs.KeptLines.Changes as model;
-ghost use Rattle.tpl_model.specs.KeptLines.Changes.{chain, changed, first_in, over, same_before};
+ghost use Rattle.tpl_model.specs.KeptLines.Changes.{chain, changed, first_in, over, same_before, stays};
 
 use crate::comparing::children::is_plain;
 use tpl_blocks::Block;
 use tpl_model::Change;
+
+// Whether lines of which the first was heard again keep their topmost nodes, where all behind it stays.
+#[tactic(auto, using(crate::proofs::Compares::Tops::stays_keep))]
+fn keeps_before(lines: &Block, same: bool) -> bool
+    ensures { (inside : model.Change) → result ≡ keeps_nodes (block lines.now) (over same inside stays) }
+{
+    match lines {
+        Block::Empty => true,
+        Block::Text(_, _, _) => true,
+        Block::Tag(_, _, _, _, _) => true,
+        Block::Choice(_, _, _, _) => false,
+        Block::Each(_, inner, _) => same && is_plain(inner),
+        Block::Attempt(_, _, _) => same,
+    }
+}
 
 // Whether lines of which the first was heard again keep their topmost nodes, where so many behind it are the same with nothing inside them, and this
 // became of the lines behind these.
@@ -45,10 +60,7 @@ pub fn keeps_nodes(lines: &Block, change: &Change) -> bool
         Change::Stays => true,
         Change::Made => is_plain(lines),
         Change::Over(same, _, later) => keeps_parts(lines, *same, 0, later),
-        Change::First(same, _) => {
-            let still = Change::stays();
-            keeps_parts(lines, *same, 0, &still)
-        }
+        Change::First(same, _) => keeps_before(lines, *same),
         Change::Same(more, later) => keeps_parts(lines, true, *more, later),
     }
 }

@@ -26,11 +26,8 @@ keeps_nodes-returns-in-Over u c =
 
 pub keeps_nodes-returns-in-First : goal.keeps_nodes-returns-in-First
 keeps_nodes-returns-in-First u c =
-    let inside = chain (map changed c.in-First.field-1.items) in
-    c.keeps_parts-in-First.ensures inside
-    ∙ ap (keeps_nodes (block c.args.lines.now))
-    (ap (over c.in-First.same inside) (none_before (changed c.stays-still.result) ∙ c.stays-still.ensures)
-    ∙ sym (ap changed c.in-First.is ∙ changed_first c.in-First.same c.in-First.field-1))
+    c.keeps_before.ensures (chain (map changed c.in-First.field-1.items))
+    ∙ ap (keeps_nodes (block c.args.lines.now)) (sym (ap changed c.in-First.is ∙ changed_first c.in-First.same c.in-First.field-1))
 
 pub keeps_nodes-returns-in-Same : goal.keeps_nodes-returns-in-Same
 keeps_nodes-returns-in-Same u c =
