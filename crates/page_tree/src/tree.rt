@@ -207,7 +207,7 @@ impl Tree {
     pub fn children(&self, id: u64) -> &[u64]
         ensures { result.now ≡ siblings (kids id self.now) }
     {
-        let Some(node) = self.nodes.get(&id) else {
+        let Some((_, node)) = find_at(&self.nodes, id as usize, id) else {
             return &[];
         };
         &node.children
@@ -264,10 +264,11 @@ impl Tree {
         Some((node.parent, place_in(&above.children, id)))
     }
 
+    // What a node is. Where none left, a node stands at the place that is its number, so it is looked for there first.
     fn label_at(&self, id: u64) -> Option<&Label>
         ensures { label_or_root (option_copied result) ≡ label_in Root id self.now }
     {
-        let Some(node) = self.nodes.get(&id) else {
+        let Some((_, node)) = find_at(&self.nodes, id as usize, id) else {
             return None;
         };
         Some(&node.label)
