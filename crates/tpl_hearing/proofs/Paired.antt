@@ -70,6 +70,15 @@ pub none_paired : (ns : List ℕ) → zip {X = Outcome} ns [] ≡ []
 none_paired [] = refl
 none_paired (n ∷ ns) = refl
 
+-- the first outcomes, so many of them
+pub taken_paired : (ns : List ℕ) (os : List Outcome) (count : ℕ) → zip ns (take count os) ≡ take count (zip ns os)
+taken_paired [] os zero = refl
+taken_paired [] os (suc count) = refl
+taken_paired (n ∷ ns) [] zero = refl
+taken_paired (n ∷ ns) [] (suc count) = refl
+taken_paired (n ∷ ns) (o ∷ os) zero = refl
+taken_paired (n ∷ ns) (o ∷ os) (suc count) = ap (λ ps. (n, o) ∷ ps) (taken_paired ns os count)
+
 -- of the name that comes next
 pub next_paired : (ns : List ℕ) (os : List Outcome) (n : ℕ) (o : Outcome) → slice_get ns (length os) ≡ Some n →
     zip ns (os ++ o ∷ []) ≡ zip ns os ++ (n, o) ∷ []

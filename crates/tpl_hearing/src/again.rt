@@ -1,5 +1,5 @@
 // Names that were heard at another time, heard again.
-ghost use Rattle.std.specs.Prelude.{◌≡◌, ◌+◌, ◌<◌, ◌≤◌, [], length, slice_get, take, true, Some, IfOk, IfSome, OnOk};
+ghost use Rattle.std.specs.Prelude.{◌≡◌, ◌+◌, ◌<◌, ◌≤◌, [], length, take, true, Some, IfOk, IfSome, OnOk};
 ghost use Rattle.std.specs.List.{zip};
 ghost use Rattle.std.specs.Map.{keys_of};
 ghost use Rattle.signal_laws.specs.ReadLaws.{with_name};
@@ -8,13 +8,12 @@ ghost use Rattle.tpl_hearing.specs.HeardAgain.{heard_by, AreCompared, AreHeardAg
 ghost use Rattle.tpl_hearing.specs.Standing.{StandBetween};
 
 use crate::comparisons::{Rehearing, hear_compared};
-use crate::outcomes::{Outcomes, settle_name};
+use crate::outcomes::{Outcomes, pair_at, settle_name};
 use crate::still::{is_number_as, stands_as};
 use sig_base::{NoMemory, NodeId, Outcome};
 use sig_computed::RunNote;
 use sig_graph::Graph;
 use sig_host::{Lent, Shelf};
-use std::alloc::Global;
 
 // Whether this is the name.
 fn is_it(last: Option<NodeId>, id: NodeId) -> bool
@@ -74,6 +73,7 @@ fn hear_next(
 /// # Errors
 ///
 /// `NoMemory` alone; names may then have been settled.
+#[inline(always)]
 pub fn hear_again(
     graph: &mut Graph,
     shelf: &mut Shelf,
@@ -100,31 +100,6 @@ pub fn hear_again(
         }
     }
     Ok(true)
-}
-
-// The first names that were heard, so many of them.
-fn front(alloc: Global, before: &Outcomes, count: usize) -> Result<Rehearing, NoMemory>
-    requires { count ≤ length before.now }
-    ensures front { IfOk result (λ h. h.heard ≡ take count before.now) }
-    ensures compared { IfOk result (λ h. AreCompared before.now h) }
-{
-    let _count = before.count();
-    let mut hearing = Rehearing::beside(alloc, before)?;
-    for place in 0..count {
-        let (id, outcome) = before.at(place);
-        hearing.put_same(id, outcome)?;
-    }
-    Ok(hearing)
-}
-
-// The name and the outcome at a place.
-#[inline(always)]
-fn pair_at<'a>(ids: &[NodeId], outcomes: &'a [Outcome], place: usize) -> (NodeId, &'a Outcome)
-    requires within { length outcomes.now ≤ length ids.now }
-    requires place { place < length outcomes.now }
-    ensures { slice_get (zip ids.now outcomes.now) place ≡ Some (result.0, result.1.now) }
-{
-    (ids[place], &outcomes[place])
 }
 
 // The first place from this one on where a name isn't a cell that shows the number of before, or the end.
@@ -192,7 +167,7 @@ fn hear_at(
     if outcome.same(was) {
         return Ok(None);
     }
-    let mut hearing = front(*notes.allocator(), before, place)?;
+    let mut hearing = Rehearing::front(*notes.allocator(), before, place)?;
     hearing.put(id, outcome, false)?;
     Ok(Some(hearing))
 }

@@ -1,11 +1,11 @@
 // What is heard of names while a page is brought up to date, beside what was heard of them before.
-ghost use Rattle.std.specs.Prelude.{◌≡◌, ◌++◌, ◌∷◌, [], false, slice_get, true, None, Some, IfNone, IfOk, IfSome, OnOk};
+ghost use Rattle.std.specs.Prelude.{◌≡◌, ◌≤◌, ◌++◌, ◌∷◌, [], false, length, slice_get, take, true, None, Some, IfNone, IfOk, IfSome, OnOk};
 ghost use Rattle.std.specs.Map.{keys_of};
 ghost use Rattle.signal_laws.specs.ReadLaws.{with_name};
 ghost use Rattle.tpl_hearing.specs.Heard.{heard_of, scene, CanSettle, Hears, Outcomes as Heard};
 ghost use Rattle.tpl_hearing.specs.HeardAgain.{AllCompared, AreCompared, AreSame, IsAsBefore, IsCompared, StandsNext};
 
-use crate::outcomes::{Outcomes, settle_compared};
+use crate::outcomes::{Outcomes, pair_at, settle_compared};
 use crate::still::stands_as;
 use sig_base::{NoMemory, NodeId, Outcome};
 use sig_computed::RunNote;
@@ -81,11 +81,19 @@ impl Comparisons {
         }
     }
 
-    // Of no name, with room for so many.
-    fn with_room(alloc: Global, count: usize) -> Result<Comparisons, NoMemory>
-        ensures { IfOk result (λ c. c ≡ []) }
+    // Of the first names that were heard before, so many of them, where these were heard again: they have the outcomes of before. There is room for
+    // the others.
+    fn front(alloc: Global, before: &Outcomes, count: usize) -> Result<Comparisons, NoMemory>
+        requires { count ≤ length before.now }
+        ensures { IfOk result (λ c. AllCompared before.now (take count before.now) c) }
     {
-        let noted = Vec::with_capacity(alloc, count)?;
+        let all = before.count();
+        let (ids, outcomes) = before.lists();
+        let mut noted = Vec::with_capacity(alloc, all)?;
+        for place in 0..count {
+            let (id, _) = pair_at(ids, outcomes, place);
+            put_note(&mut noted, id, true)?;
+        }
         Ok(Comparisons { noted })
     }
 
@@ -138,17 +146,22 @@ impl Rehearing {
         }
     }
 
-    /// Nothing was heard yet, and the names that were heard before are expected.
+    /// The first names that were heard before, so many of them, were heard again with the outcomes of before, and those behind them are expected.
     ///
     /// # Errors
     ///
     /// `NoMemory` alone.
-    pub(crate) fn beside(alloc: Global, before: &Outcomes) -> Result<Rehearing, NoMemory>
-        ensures heard { IfOk result (λ h. h.heard ≡ []) }
-        ensures compared { IfOk result (λ h. h.compared ≡ []) }
+    pub(crate) fn front(
+        alloc: Global,
+        before: &Outcomes,
+        count: usize,
+    ) -> Result<Rehearing, NoMemory>
+        requires { count ≤ length before.now }
+        ensures front { IfOk result (λ h. h.heard ≡ take count before.now) }
+        ensures compared { IfOk result (λ h. AreCompared before.now h) }
     {
-        let heard = Outcomes::beside(alloc, before)?;
-        let compared = Comparisons::with_room(alloc, before.count())?;
+        let heard = before.front(alloc, count)?;
+        let compared = Comparisons::front(alloc, before, count)?;
         Ok(Rehearing { heard, compared })
     }
 
@@ -231,25 +244,6 @@ impl Rehearing {
         let place = self.heard.count();
         self.heard.put(id, outcome)?;
         self.compared.put(place, id, same)?;
-        Ok(())
-    }
-
-    /// Puts a name behind the others with a copy of its outcome of before.
-    ///
-    /// # Errors
-    ///
-    /// `NoMemory` alone.
-    #[inline(always)]
-    pub(crate) fn put_same(&mut self, id: NodeId, was: &Outcome) -> Result<(), NoMemory>
-        requires { heard_of self.old.heard id ≡ None }
-        ensures heard { OnOk result (self.new.heard ≡ self.old.heard ++ (id, was.now) ∷ []) }
-        ensures compared { (before : Heard) → AreCompared before self.old → heard_of before id ≡ Some was.now → OnOk result (AreCompared before self.new) }
-    {
-        if self.put_next(id, was)? {
-            return Ok(());
-        }
-        let outcome = was.copy()?;
-        self.put(id, outcome, true)?;
         Ok(())
     }
 }

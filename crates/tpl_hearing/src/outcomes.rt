@@ -87,6 +87,32 @@ fn push_copy(outcomes: &mut Vec<Outcome>, outcome: &Outcome) -> Result<(), NoMem
     Ok(())
 }
 
+/// The name and the outcome at a place.
+#[inline(always)]
+pub(crate) fn pair_at<'a>(
+    ids: &[NodeId],
+    outcomes: &'a [Outcome],
+    place: usize,
+) -> (NodeId, &'a Outcome)
+    requires within { length outcomes.now ≤ length ids.now }
+    requires place { place < length outcomes.now }
+    ensures { slice_get (zip ids.now outcomes.now) place ≡ Some (result.0, result.1.now) }
+{
+    (ids[place], &outcomes[place])
+}
+
+// Copies of the first outcomes, so many of them, and room for the others.
+fn copy_front(alloc: Global, outcomes: &[Outcome], count: usize) -> Result<Vec<Outcome>, NoMemory>
+    requires { count ≤ length outcomes.now }
+    ensures { IfOk result (λ os. os.items ≡ take count outcomes.now) }
+{
+    let mut own = Vec::with_capacity(alloc, outcomes.len())?;
+    for place in 0..count {
+        push_copy(&mut own, &outcomes[place])?;
+    }
+    Ok(own)
+}
+
 // A name is the next one behind so many.
 #[inline(always)]
 fn expect(alloc: Global, names: &mut NameList, count: usize, id: NodeId) -> Result<(), NoMemory>
@@ -142,16 +168,17 @@ impl Outcomes {
         }
     }
 
-    /// Nothing was heard, and the names that were heard before are expected, for each of which there is room.
+    /// The first names that were heard, so many of them; those behind them are expected, for each of which there is room.
     ///
     /// # Errors
     ///
     /// `NoMemory` alone.
-    pub(crate) fn beside(alloc: Global, before: &Outcomes) -> Result<Outcomes, NoMemory>
-        ensures { IfOk result (λ h. h ≡ []) }
+    pub(crate) fn front(&self, alloc: Global, count: usize) -> Result<Outcomes, NoMemory>
+        requires { count ≤ length self.now }
+        ensures { IfOk result (λ h. h ≡ take count self.now) }
     {
-        let names = before.names.copy()?;
-        let outcomes = Vec::with_capacity(alloc, before.outcomes.len())?;
+        let names = self.names.copy()?;
+        let outcomes = copy_front(alloc, &self.outcomes, count)?;
         Ok(Outcomes { names, outcomes })
     }
 

@@ -1,7 +1,7 @@
 use Rattle.std.proofs.Common.{length, refl, arith}
 use Rattle.std.proofs.lemmas.Option.{slice_get_read}
 use Rattle.tpl_hearing.proofs.Paired.{at_paired}
-use Rattle.tpl_hearing.proofs.again.pair_at.Goals as goal
+use Rattle.tpl_hearing.proofs.outcomes.pair_at.Goals as goal
 
 pub returns : goal.returns
 returns c =
