@@ -1,5 +1,5 @@
 -- Texts that come first and are the same: what was kept of them stays, before lines that are brought up to date.
-use Rattle.std.proofs.Common.{◌≡◌, ◌<◌, ◌+◌, ◌-◌, ℕ, zero, suc, false, true, List, Option, refl, sym, ap, subst, ◌∙◌, arith}
+use Rattle.std.proofs.Common.{◌≡◌, ◌<◌, ◌-◌, ℕ, zero, suc, false, true, List, Option, refl, sym, ap, subst, ◌∙◌, arith}
 use Rattle.sig_formula.specs.Trees.{Tree}
 use Rattle.sig_formula.specs.declared.formula.RowRef.{RowRef}
 use Rattle.tpl_model.specs.Lines.{Block, empty, text, tag, choice, each, attempt}
@@ -44,11 +44,17 @@ same_texts (suc n) before heard (row h i r) all = absurd all
 same_texts (suc n) before heard (either a b r) all = absurd all
 
 -- one more of them
-pub one_same : (n : ℕ) (before heard : Outcomes) (m : PageMemo) (h : Heard) (r : PageMemo) → m ≡ line h r → AreSame before h.names heard heard →
-    AreSameTexts n before heard r → AreSameTexts (1 + n) before heard m
-one_same n before heard m h r e first others =
-    let more : suc n ≡ 1 + n = omega arith in
-    subst (λ k. AreSameTexts k before heard m) more (subst (AreSameTexts (suc n) before heard) (sym e) (first, others))
+pub same_more : (n : ℕ) (before heard : Outcomes) (m : PageMemo) (h : Heard) (r : PageMemo) → AreSameTexts n before heard m → line h r ≡ kept_behind n m →
+    AreSame before h.names heard heard → AreSameTexts (suc n) before heard m × (r ≡ kept_behind (suc n) m)
+same_more zero before heard m h r all e first = subst (λ z. AreSameTexts (suc zero) before heard z × (r ≡ kept_behind (suc zero) z)) e ((first, tt), refl)
+same_more (suc n) before heard unread h r all e first = absurd all
+same_more (suc n) before heard blank h r all e first = absurd all
+same_more (suc n) before heard (line g s) h r all e first = let more = same_more n before heard s h r all.1 e first in ((all.0, more.0), more.1)
+same_more (suc n) before heard (element hs i s) h r all e first = absurd all
+same_more (suc n) before heard (branch g i s) h r all e first = absurd all
+same_more (suc n) before heard (loop g i s) h r all e first = absurd all
+same_more (suc n) before heard (row g i s) h r all e first = absurd all
+same_more (suc n) before heard (either x y s) h r all e first = absurd all
 
 -- ---- what is behind them
 

@@ -250,8 +250,8 @@ fn renew_here(
     }
 }
 
-// Brings what is kept of lines up to date, where it is kept: behind so many texts, of which each name was heard already and has the outcome of before,
-// and which stay. Its clauses are those of renewing.
+// Brings what is kept of lines up to date, where it is kept: behind so many texts, of which each name was heard already and has the outcome of
+// before, and which stay. Its clauses are those of renewing.
 #[inline(never)]
 fn renew_behind(
     alloc: Global,
@@ -347,7 +347,7 @@ pub fn renew(
         )?;
         return Ok(Renewed { memo: all, change });
     }
-    let count = count_same(hearing, before, 0, &all, usize::MAX);
+    let count = count_same(hearing, before, &all);
     if count > 0 {
         let change = renew_behind(
             alloc, graph, shelf, before, hearing, lines, count, &mut all, links, row, notes,

@@ -1,5 +1,5 @@
 // Texts that come first and are the same, before lines that are brought up to date: they are passed over without a look at the signals.
-ghost use Rattle.std.specs.Prelude.{◌≡◌, ◌≤◌, IfOk};
+ghost use Rattle.std.specs.Prelude.{◌≡◌, IfOk};
 ghost use Rattle.tpl_blocks.specs.Blocks.{block};
 ghost use Rattle.tpl_hearing.specs.HeardAgain.{AreCompared};
 ghost use Rattle.tpl_model.specs.KeptLines.Kept.{kept};
@@ -14,31 +14,26 @@ use tpl_blocks::Block;
 use tpl_hearing::{Outcomes, Rehearing};
 use tpl_model::{Change, PageMemo};
 
-/// How many texts come first, of at most so many, of which each name was heard already and has the outcome of before. The names are looked for from a
-/// place on.
-pub(crate) fn count_same(
-    hearing: &Rehearing,
-    before: &Outcomes,
-    near: usize,
-    memo: &PageMemo,
-    most: usize,
-) -> usize
+/// How many texts come first of which each name was heard already and has the outcome of before.
+pub(crate) fn count_same(hearing: &Rehearing, before: &Outcomes, memo: &PageMemo) -> usize
     requires { AreCompared before.now hearing.now }
-    ensures most { result ≤ most }
-    ensures same { AreSameTexts result before.now hearing.now.heard (kept memo.now) }
+    ensures { AreSameTexts result before.now hearing.now.heard (kept memo.now) }
 {
-    if most == 0 {
-        return 0;
+    let mut at = memo;
+    let mut near: usize = 0;
+    let mut count: usize = 0;
+    'passing: while count < usize::MAX {
+        let PageMemo::Line(line, later) = at else {
+            return count;
+        };
+        if !hearing.are_same(before, near, &line.names) {
+            return count;
+        }
+        near = near.saturating_add(line.names.len());
+        count += 1;
+        at = later;
     }
-    let PageMemo::Line(line, later) = memo else {
-        return 0;
-    };
-    if !hearing.are_same(before, near, &line.names) {
-        return 0;
-    }
-    let next = near.saturating_add(line.names.len());
-    let behind = count_same(hearing, before, next, later, most - 1);
-    1 + behind
+    count
 }
 
 /// The lines behind so many.
@@ -51,8 +46,8 @@ pub(crate) fn lines_behind(lines: &Block, count: usize) -> &Block
     lines_behind(rest_of(lines), count - 1)
 }
 
-/// Exchanges what is kept behind so many texts for something else; gives near which place the names behind them are looked for, which decides nothing of
-/// what comes of it.
+/// Exchanges what is kept behind so many texts for something else; gives near which place the names behind them are looked for, which decides
+/// nothing of what comes of it.
 #[tactic(auto, using(tpl_model::proofs::MemoEquations::kept_unread, tpl_model::proofs::MemoEquations::kept_blank, tpl_model::proofs::MemoEquations::kept_line, tpl_model::proofs::MemoEquations::kept_element, tpl_model::proofs::MemoEquations::kept_branch, tpl_model::proofs::MemoEquations::kept_loop, tpl_model::proofs::MemoEquations::kept_either))]
 pub(crate) fn swap_behind(
     memo: &mut PageMemo,
