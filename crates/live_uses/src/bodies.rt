@@ -58,7 +58,7 @@ fn put_slot_names<'a>(
     Ok(())
 }
 
-// Puts the names in a formula behind others.
+// Puts the names in a formula behind others. One that is a name, as most in effects are, takes no list.
 fn put_formula<'a>(
     alloc: Global,
     uses: &mut Vec<Use<'a>>,
@@ -68,6 +68,9 @@ fn put_formula<'a>(
     ensures { OnOk result (map use_of uses.new.items
         ≡ map use_of uses.old.items ++ flat_map (λ s. uses_at names.now s need.Signal) (slots_in (tree formula.now))) }
 {
+    if let Formula::Slot(slot) = formula {
+        return put_slot_names(uses, names, &[*slot]);
+    }
     let slots = slots_in(alloc, formula)?;
     put_slot_names(uses, names, &slots)
 }
