@@ -21,6 +21,6 @@ pub use children::make_child;
 pub use cleanups::note;
 pub use disposal::dispose;
 pub use messages::{fail, log};
-pub use reads::keep_reads;
+pub use reads::{keep_one, keep_reads};
 pub use recipes::rewire;
 pub use sequence::do_acts;

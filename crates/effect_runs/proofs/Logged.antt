@@ -9,7 +9,7 @@ use Rattle.sig_base.specs.declared.value.Outcome.TheVariants.{Good}
 use Rattle.sig_formula.specs.Trees.{slot}
 use Rattle.sig_formula.specs.Evaluation.{known_at, slot_step}
 use Rattle.signal_model.specs.Recipes.{Hosts}
-use Rattle.signal_model.specs.Signals.{Signals}
+use Rattle.signal_model.specs.Signals.{Signals, standing}
 use Rattle.signal_model.specs.Values.{learnt, value_of}
 use Rattle.signal_model.specs.Sound.{names_of}
 use Rattle.effect_model.specs.Bodies as model
@@ -19,11 +19,13 @@ use Rattle.effect_laws.proofs.Shared.{body_law}
 use Rattle.sig_untrack.specs.declared.body.Body.{Body}
 use Rattle.sig_untrack.specs.Links.{Parts, linked}
 use Rattle.sig_untrack.specs.Stated.{Stated, before, no_bodies, statements_of}
+use Rattle.sig_nodes.specs.Answers.{value_here}
 use Rattle.sig_computed.specs.Notes.{IsIdle}
 use Rattle.sig_computed.specs.Scenes.{Scene, Settles}
 use Rattle.effect_tables.specs.Scripts.{count_of}
+use Rattle.effect_runs.specs.declared.at_once.LoggedCell.{LoggedCell}
 use Rattle.effect_runs.specs.declared.run.BodyRun.{BodyRun}
-use Rattle.effect_runs.specs.Evaluations.{body_seen, HasLogged, IsRunOf, IsShort}
+use Rattle.effect_runs.specs.Evaluations.{body_seen, HasLogged, IsRunOf, IsShort, LogsCell, LogsName}
 use Rattle.effect_runs.proofs.Cells.{cell_settled, value_is}
 use Rattle.effect_runs.proofs.Names.{same_settled}
 
@@ -65,14 +67,38 @@ module _ (s : ℕ) (names : List ℕ) (source : ℕ → Outcome) (v : Value) (wi
       ∙ ap (λ o. after_body_read true (slice_index names s) o (λ u. with_known true s u (body_asked_from (logging s names) source) [] [])) good
       ∙ ap (read_before true (record { name = slice_index names s; outcome = Good v })) ended_so
 
+-- the whole evaluation
+cell_logged : (w : Signals) (b : Body) (names : List ℕ) (n : ℕ) (v : Value) → LogsName n b names → value_here (standing w n) ≡ Some v →
+    (hosts : Hosts) (p : Parts) → body_evaluation hosts w (body_seen p b names) ≡ logged n v
+cell_logged w b names n v logs stands hosts p =
+    ap (λ (ss : Stated). body_evaluation hosts w (record { statements = linked p ss; names = names })) logs.logs
+    ∙ comes_to logs.slot names (λ m. value_of hosts w m []) v logs.within
+    (ap (λ m. value_of hosts w m []) (sym logs.name) ∙ value_is hosts w n v stands)
+    ∙ ap (λ m. logged m v) (sym logs.name)
+
+module _ (w : Signals) (b : Body) (names : List ℕ) (l : LoggedCell) (h : LogsCell w b names l) (hosts : Hosts) (p : Parts) where
+  -- what was read of a cell that is logged, tracked, and what is to be done
+  pub logged_tracked : l.read ∷ [] ≡ (body_evaluation hosts w (body_seen p b names)).tracked
+  logged_tracked =
+      ap (λ (o : Outcome). record { name = l.read.name; outcome = o } ∷ []) h.good
+      ∙ sym (ap (λ (e : BodyEvaluation). e.tracked) (cell_logged w b names l.read.name l.value h.logs h.stands hosts p))
+
+  pub logged_result : to_do (to_log l.value ∷ []) ≡ (body_evaluation hosts w (body_seen p b names)).result
+  logged_result = sym (ap (λ (e : BodyEvaluation). e.result) (cell_logged w b names l.read.name l.value h.logs h.stands hosts p))
+
+-- and nothing is settled
+pub logged_settled : (x : Scene) (before : Hosts → Type 0) (b : Body) (names : List ℕ) (l : LoggedCell) → IsIdle x.graph.state →
+    LogsCell x.graph.state.signals b names l → (p : Parts) →
+    Settles x x before before (λ hosts. names_of (body_evaluation hosts x.graph.state.signals (body_seen p b names)).reads)
+logged_settled x before b names l idle h p =
+    let w : Signals = x.graph.state.signals in
+    same_settled x x before before (λ _. l.read.name ∷ []) (λ hosts. names_of (body_evaluation hosts w (body_seen p b names)).reads)
+    (cell_settled x before l.read.name l.value idle h.stands)
+    (λ hosts all kept. sym (ap (λ (e : BodyEvaluation). names_of e.reads) (cell_logged w b names l.read.name l.value h.logs h.stands hosts p)))
+
 module _ (w : Signals) (b : Body) (names : List ℕ) (r : BodyRun) (h : HasLogged w b names r) where
-  -- the whole evaluation
   evaluation_is : (hosts : Hosts) (p : Parts) → body_evaluation hosts w (body_seen p b names) ≡ logged h.cell h.value
-  evaluation_is hosts p =
-      ap (λ (ss : Stated). body_evaluation hosts w (record { statements = linked p ss; names = names })) h.logs.logs
-      ∙ comes_to h.logs.slot names (λ m. value_of hosts w m []) h.value h.logs.within
-      (ap (λ m. value_of hosts w m []) (sym h.logs.name) ∙ value_is hosts w h.cell h.value h.stands)
-      ∙ ap (λ m. logged m h.value) (sym h.logs.name)
+  evaluation_is hosts p = cell_logged w b names h.cell h.value h.logs h.stands hosts p
 
   -- the run is that of the evaluation
   pub log_run : (hosts : Hosts) (p : Parts) → IsRunOf p (body_evaluation hosts w (body_seen p b names)) r

@@ -16,6 +16,7 @@ use Rattle.sig_nodes.specs.Answers.{value_here}
 use Rattle.sig_untrack.specs.declared.body.Body.{Body}
 use Rattle.sig_untrack.specs.Stated.{before, no_bodies, no_more, plain, statements_of}
 use Rattle.sig_untrack.specs.Links.{Parts, acts_of, linked}
+use Rattle.effect_runs.specs.declared.at_once.LoggedCell.{LoggedCell}
 use Rattle.effect_runs.specs.declared.run.BodyEnd.{BodyEnd}
 use Rattle.effect_runs.specs.declared.run.BodyEnd.TheVariants.{Acts, Fail}
 use Rattle.effect_runs.specs.declared.run.BodyRun.{BodyRun}
@@ -49,6 +50,12 @@ pub record LogsName (n : ℕ) (b : Body) (names : List ℕ) : Type 0 where
   pub logs : statements_of (before b no_bodies) ≡ plain (lines.Log (trees.slot slot)) no_more
   pub within : slot < length names
   pub name : n ≡ slice_index names slot
+
+-- and that is a cell of this value
+pub record LogsCell (w : Signals) (b : Body) (names : List ℕ) (l : LoggedCell) : Type 0 where
+  pub logs : LogsName l.read.name b names
+  pub stands : value_here (standing w l.read.name) ≡ Some l.value
+  pub good : l.read.outcome ≡ Good l.value
 
 -- so this comes of it, where that is a value
 pub record IsLogged (n : ℕ) (v : Value) (r : BodyRun) : Type 0 where

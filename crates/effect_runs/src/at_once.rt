@@ -3,7 +3,7 @@ ghost use Rattle.std.specs.Prelude.{◌≡◌, ◌∷◌, ◌<◌, [], length, s
 ghost use Rattle.sig_base.specs.declared.value.Outcome.TheVariants.{Good};
 ghost use Rattle.effect_model.specs.Bodies.{to_do, to_log};
 ghost use Rattle.sig_untrack.specs.Links.{Parts};
-ghost use Rattle.effect_runs.specs.Evaluations.{result_of, HasLogged, IsLogged, IsShort, LogsName};
+ghost use Rattle.effect_runs.specs.Evaluations.{result_of, HasLogged, IsLogged, IsShort, LogsCell, LogsName};
 
 use crate::run::{BodyEnd, BodyRun};
 use sig_base::{NoMemory, NodeId, Outcome, Value};
@@ -31,6 +31,39 @@ fn logged_name(body: &Body, names: &[NodeId]) -> Option<NodeId>
         Some(slot) => name_at(names, slot),
         None => None,
     }
+}
+
+/// The cell that a body logs: what was read of it, and its value, which is to be logged.
+#[derive(Drop)]
+pub struct LoggedCell {
+    pub read: Read,
+    pub value: Value,
+}
+
+/// The cell that a body logs, where that is all that it does. Nothing is settled, and the body isn't asked.
+///
+/// # Errors
+///
+/// `NoMemory` where memory ran out.
+pub fn logged_cell(
+    graph: &Graph,
+    body: &Body,
+    names: &[NodeId],
+) -> Result<Option<LoggedCell>, NoMemory>
+    ensures { IfOk result (λ o. IfSome o (LogsCell graph.now.state.signals body.now names.now)) }
+{
+    let Some(id) = logged_name(body, names) else {
+        return Ok(None);
+    };
+    let Some(value) = graph.cell_value(id) else {
+        return Ok(None);
+    };
+    let outcome = Outcome::Good(value.copy()?);
+    let value = value.copy()?;
+    Ok(Some(LoggedCell {
+        read: Read { id, outcome },
+        value,
+    }))
 }
 
 // What was read of a signal.

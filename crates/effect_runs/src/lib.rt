@@ -6,6 +6,7 @@ mod due;
 mod evaluate;
 mod run;
 
+pub use at_once::{LoggedCell, logged_cell};
 pub use due::{are_still, look};
 pub use evaluate::evaluate_body;
 pub use run::{BodyEnd, BodyRun};

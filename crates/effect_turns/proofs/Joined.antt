@@ -7,7 +7,7 @@ use Rattle.signal_model.specs.Signals.{Signals}
 use Rattle.signal_model.specs.Values.{Seen}
 use Rattle.effect_model.specs.Acts.{take_back}
 use Rattle.effect_model.specs.Bodies as model
-use Rattle.effect_model.specs.Bodies.{BodyEvaluation, body_evaluation}
+use Rattle.effect_model.specs.Bodies.{BodyEvaluation, BodyResult, body_evaluation}
 use Rattle.effect_model.specs.Owners.{the_effect}
 use Rattle.effect_model.specs.Runs.{do_result, keep_reads, run_body, run_effect}
 use Rattle.effect_model.specs.Worlds as plain
@@ -25,14 +25,16 @@ use Rattle.sig_untrack.specs.declared.body.Body.{Body}
 use Rattle.sig_untrack.specs.Links.{Parts}
 use Rattle.sig_untrack.specs.Stated as stated
 use Rattle.sig_untrack.specs.Stated.{no_bodies}
-use Rattle.effect_runs.specs.declared.run.BodyRun.{BodyRun}
-use Rattle.effect_runs.specs.Evaluations.{body_seen, result_of, IsRunOf}
+use Rattle.effect_runs.specs.Evaluations.{body_seen, LogsCell}
+use Rattle.effect_runs.specs.declared.at_once.LoggedCell.{LoggedCell}
+use Rattle.effect_runs.proofs.Shared.{logged_settled}
+use Rattle.sig_computed.specs.Scenes as settling
 use Rattle.effect_world.specs.Signals.{Scene, any_hosts}
 use Rattle.effect_world.specs.Stores.{Agrees, IsSound}
 use Rattle.effect_world.specs.Wholes.{whole_of}
 use Rattle.effect_world.specs.Answers.{Acted}
 use Rattle.effect_turns.specs.Runs.{Runs}
-use Rattle.effect_turns.proofs.Carried.{acted_runs, runs_any, runs_as, runs_still}
+use Rattle.effect_turns.proofs.Carried.{acted_runs, runs_any, runs_as, runs_still, settled_runs}
 use Rattle.effect_turns.proofs.Sequences.{runs_then}
 
 -- ---- a body that is evaluated
@@ -44,17 +46,31 @@ pub seen_runs : (slacks : List ℕ) (old new : Scene) (before after : Hosts → 
 seen_runs slacks old new before after w p b ns ms is r =
     subst (λ (xs : List ℕ). Runs slacks old new before after (λ env. settle env (names_of (body_evaluation env.hosts w (body_seen p b xs)).reads))) is r
 
-module _ (slacks : List ℕ) (old mid kept new : Scene) (before between after : Hosts → Type 0) (id : ℕ) (p : Parts) (b : Body) (names : List ℕ) (body : model.Body) (run : BodyRun) where
+-- one that logs a cell settles nothing
+pub logged_runs : (slacks : List ℕ) (x : Scene) (answers : Hosts → Type 0) (p : Parts) (b : Body) (names : List ℕ) (l : LoggedCell) → Agrees x.asked x.world →
+    LogsCell x.world.graph.state.signals b names l →
+    Runs slacks x x answers answers (λ env. settle env (names_of (body_evaluation env.hosts x.world.graph.state.signals (body_seen p b names)).reads))
+logged_runs slacks x answers p b names l a h =
+    settled_runs slacks x.world x.world x.asked x.asked [] [] x.events x.events answers answers
+    (λ hosts. names_of (body_evaluation hosts x.world.graph.state.signals (body_seen p b names)).reads) refl (sym (append-nil x.events)) refl refl refl a
+    (logged_settled (settling.scene x.world.graph x.asked []) answers b names l a.signals.idle h p)
+
+-- what it has read, tracked, and how it has ended
+pub record IsEvaluated (ss : List Seen) (end : BodyResult) (e : BodyEvaluation) : Type 0 where
+  pub tracked : ss ≡ e.tracked
+  pub result : end ≡ e.result
+
+module _ (slacks : List ℕ) (old mid kept new : Scene) (before between after : Hosts → Type 0) (id : ℕ) (p : Parts) (b : Body) (names : List ℕ) (body : model.Body) (tracked : List Seen) (result : BodyResult) where
   pub run_joined : body ≡ body_seen p b names → Agrees old.asked old.world →
       ((hosts : Hosts) → before hosts → IsSound hosts old.asked old.world →
-      IsRunOf p (body_evaluation hosts old.world.graph.state.signals (body_seen p b names)) run) →
+      IsEvaluated tracked result (body_evaluation hosts old.world.graph.state.signals (body_seen p b names))) →
       Runs slacks old mid before between (λ env. settle env (names_of (body_evaluation env.hosts old.world.graph.state.signals (body_seen p b names)).reads)) →
-      Acted slacks mid kept any_hosts any_hosts 0 (λ env. keep_reads id run.tracked.items) →
-      Runs slacks kept new between after (λ env. do_result env id (result_of p run.end)) →
+      Acted slacks mid kept any_hosts any_hosts 0 (λ env. keep_reads id tracked) →
+      Runs slacks kept new between after (λ env. do_result env id result) →
       Runs slacks old new before after (λ env w. run_body env id (body_evaluation env.hosts w.signals body) w)
   run_joined seen a is first then' last =
       runs_as slacks old new before after
-      (λ env w. do_result env id (result_of p run.end) (keep_reads id run.tracked.items
+      (λ env w. do_result env id result (keep_reads id tracked
       (settle env (names_of (body_evaluation env.hosts old.world.graph.state.signals (body_seen p b names)).reads) w)))
       (λ env w. run_body env id (body_evaluation env.hosts w.signals body) w)
       (λ hosts all sound.
@@ -65,15 +81,15 @@ module _ (slacks : List ℕ) (old mid kept new : Scene) (before between after : 
       (λ i. do_result env id (r.result i) (keep_reads id (r.tracked i) (settle env (names_of e.reads) w)))
       ∙ ap (λ (x : model.Body). run_body env id (body_evaluation hosts old.world.graph.state.signals x) w) (sym seen))
       (runs_then slacks old kept new before between after
-      (λ env w. keep_reads id run.tracked.items (settle env (names_of (body_evaluation env.hosts old.world.graph.state.signals (body_seen p b names)).reads) w))
-      (λ env. do_result env id (result_of p run.end)) a
-      (λ env. rests_then (settle env (names_of (body_evaluation env.hosts old.world.graph.state.signals (body_seen p b names)).reads)) (keep_reads id run.tracked.items)
-      (all_rest.settling env (names_of (body_evaluation env.hosts old.world.graph.state.signals (body_seen p b names)).reads)) (all_rest.keeping id run.tracked.items))
-      (λ env. all_rest.ending env id (result_of p run.end))
+      (λ env w. keep_reads id tracked (settle env (names_of (body_evaluation env.hosts old.world.graph.state.signals (body_seen p b names)).reads) w))
+      (λ env. do_result env id result) a
+      (λ env. rests_then (settle env (names_of (body_evaluation env.hosts old.world.graph.state.signals (body_seen p b names)).reads)) (keep_reads id tracked)
+      (all_rest.settling env (names_of (body_evaluation env.hosts old.world.graph.state.signals (body_seen p b names)).reads)) (all_rest.keeping id tracked))
+      (λ env. all_rest.ending env id result)
       (runs_then slacks old mid kept before between between
-      (λ env. settle env (names_of (body_evaluation env.hosts old.world.graph.state.signals (body_seen p b names)).reads)) (λ env. keep_reads id run.tracked.items) a
-      (λ env. all_rest.settling env (names_of (body_evaluation env.hosts old.world.graph.state.signals (body_seen p b names)).reads)) (λ env. all_rest.keeping id run.tracked.items)
-      first (runs_any slacks mid kept between (λ env. keep_reads id run.tracked.items) (acted_runs slacks mid kept any_hosts any_hosts 0 (λ env. keep_reads id run.tracked.items) then')))
+      (λ env. settle env (names_of (body_evaluation env.hosts old.world.graph.state.signals (body_seen p b names)).reads)) (λ env. keep_reads id tracked) a
+      (λ env. all_rest.settling env (names_of (body_evaluation env.hosts old.world.graph.state.signals (body_seen p b names)).reads)) (λ env. all_rest.keeping id tracked)
+      first (runs_any slacks mid kept between (λ env. keep_reads id tracked) (acted_runs slacks mid kept any_hosts any_hosts 0 (λ env. keep_reads id tracked) then')))
       last)
 
 -- ---- a body with no statement

@@ -1,5 +1,5 @@
 // An effect runs.
-ghost use Rattle.std.specs.Prelude.{◌≡◌, ◌<◌, ◌≤◌, ℕ, List, None, IfOk, OnOk, length, map};
+ghost use Rattle.std.specs.Prelude.{◌≡◌, ◌<◌, ◌≤◌, ℕ, List, None, IfOk, IfSome, OnOk, length, map};
 ghost use Rattle.std.specs.Rc.{rc_value};
 ghost use Rattle.signal_model.specs.Recipes.{Hosts};
 ghost use Rattle.signal_model.specs.Sound.{names_of};
@@ -17,21 +17,21 @@ ghost use Rattle.sig_host.specs.Hosts.{HostPlace};
 ghost use Rattle.sig_untrack.specs.Links.{Parts};
 ghost use Rattle.sig_untrack.specs.Stated.{before, no_bodies, statements_of};
 ghost use Rattle.sig_effect.specs.Stores.{AreRuled};
-ghost use Rattle.effect_runs.specs.Evaluations.{body_seen, result_of, IsRunOf, IsShort};
+ghost use Rattle.effect_runs.specs.Evaluations.{body_seen, result_of, IsRunOf, IsShort, LogsCell};
 ghost use Rattle.effect_world.specs.Signals.{any_hosts, scene};
 ghost use Rattle.effect_world.specs.Stores.{Agrees, AreOwned, IsSound};
 ghost use Rattle.effect_turns.specs.Runs.{CanHear, CanRun, MayAct, Runs, Spends, Uses};
 ghost use Rattle.effect_tables.specs.Visits.{rerun};
 
-use effect_acts::{do_acts, fail, keep_reads};
-use effect_runs::{BodyEnd, BodyRun, evaluate_body};
+use effect_acts::{do_acts, fail, keep_one, keep_reads};
+use effect_runs::{BodyEnd, BodyRun, LoggedCell, evaluate_body, logged_cell};
 use effect_tables::{Links, Site, effect_at};
 use effect_teardown::{body_at, links_at};
 use effect_world::World;
 use sig_base::{EffectId, NoMemory};
 use sig_effect::{Event, tell_runs};
 use sig_host::{EqualsRule, Lent, Shelf};
-use sig_untrack::Body;
+use sig_untrack::{Act, Body};
 
 // Takes back what stands under an effect.
 fn take_back(
@@ -133,8 +133,8 @@ fn finish(
     }
 }
 
-// Evaluates the body of an effect, keeps what it read, tracked, and does what it wants done.
-fn run_part(
+// Evaluates the body of an effect, as it is asked, keeps what it read, tracked, and does what it wants done.
+fn ask_part(
     world: &mut World,
     shelf: &mut Shelf,
     rules: &[EqualsRule],
@@ -164,6 +164,87 @@ fn run_part(
     let _count = events.len();
     finish(world, shelf, rules, id, site, body, links, end, events)?;
     Ok(())
+}
+
+// The cell that a body logs, where that is all that it does.
+fn cell_of(world: &World, body: &Body, links: &Links) -> Result<Option<LoggedCell>, NoMemory>
+    ensures { IfOk result (λ o. IfSome o (LogsCell world.now.graph.state.signals body.now (out-Links links.now).names.items)) }
+{
+    let cell = logged_cell(&world.graph, body, &links.names)?;
+    Ok(cell)
+}
+
+// Runs an effect whose body logs a cell, and does nothing else: what it read is kept where the read before it stood, and no list of acts is made.
+fn log_part(
+    world: &mut World,
+    shelf: &mut Shelf,
+    rules: &[EqualsRule],
+    id: EffectId,
+    site: &Site,
+    body: &Body,
+    links: &Links,
+    logged: LoggedCell,
+    events: &mut Vec<Event>,
+) -> Result<(), NoMemory>
+    requires can { CanRun (scene world.old (⟦<Shelf as Lent>⟧.asked shelf.old) events.old.items) }
+    requires ruled { AreRuled (length rules.now) world.old.graph.state.signals }
+    requires counted { ⟦<Shelf as Lent>⟧.counted shelf.old }
+    requires fits { IsFitting (rc_value site.now.script) }
+    requires part { IsPart (rc_value site.now.script) site.now.path.items body.now links.now }
+    requires logs { LogsCell world.old.graph.state.signals body.now (out-Links links.now).names.items logged }
+    ensures done { OnOk result (Runs (map (λ r. r.slack) rules.now)
+        (scene world.old (⟦<Shelf as Lent>⟧.asked shelf.old) events.old.items) (scene world.new (⟦<Shelf as Lent>⟧.asked shelf.new) events.new.items)
+        (λ hosts. ⟦<Shelf as Lent>⟧.answers hosts shelf.old) (λ hosts. ⟦<Shelf as Lent>⟧.answers hosts shelf.new)
+        (λ env w. run_body env id (body_evaluation env.hosts w.signals
+        (body_of site.now.origin (rc_value site.now.script) site.now.path.items)) w)) }
+    ensures spent { OnOk result (Spends
+        (scene world.old (⟦<Shelf as Lent>⟧.asked shelf.old) events.old.items) (scene world.new (⟦<Shelf as Lent>⟧.asked shelf.new) events.new.items)) }
+    ensures counted { OnOk result (⟦<Shelf as Lent>⟧.counted shelf.new) }
+{
+    let LoggedCell { read, value } = logged;
+    keep_one(world, id, read, events)?;
+    let _count = events.len();
+    let acts = [Act::Log(value)];
+    do_acts(world, shelf, rules, id, site, body, links, &acts, events)?;
+    Ok(())
+}
+
+// Runs the body of an effect: one that logs a cell as it stands, and each other one as it is asked.
+fn run_part(
+    world: &mut World,
+    shelf: &mut Shelf,
+    rules: &[EqualsRule],
+    id: EffectId,
+    site: &Site,
+    body: &Body,
+    links: &Links,
+    events: &mut Vec<Event>,
+) -> Result<(), NoMemory>
+    requires can { CanRun (scene world.old (⟦<Shelf as Lent>⟧.asked shelf.old) events.old.items) }
+    requires ruled { AreRuled (length rules.now) world.old.graph.state.signals }
+    requires counted { ⟦<Shelf as Lent>⟧.counted shelf.old }
+    requires fits { IsFitting (rc_value site.now.script) }
+    requires part { IsPart (rc_value site.now.script) site.now.path.items body.now links.now }
+    ensures done { OnOk result (Runs (map (λ r. r.slack) rules.now)
+        (scene world.old (⟦<Shelf as Lent>⟧.asked shelf.old) events.old.items) (scene world.new (⟦<Shelf as Lent>⟧.asked shelf.new) events.new.items)
+        (λ hosts. ⟦<Shelf as Lent>⟧.answers hosts shelf.old) (λ hosts. ⟦<Shelf as Lent>⟧.answers hosts shelf.new)
+        (λ env w. run_body env id (body_evaluation env.hosts w.signals
+        (body_of site.now.origin (rc_value site.now.script) site.now.path.items)) w)) }
+    ensures spent { OnOk result (Spends
+        (scene world.old (⟦<Shelf as Lent>⟧.asked shelf.old) events.old.items) (scene world.new (⟦<Shelf as Lent>⟧.asked shelf.new) events.new.items)) }
+    ensures counted { OnOk result (⟦<Shelf as Lent>⟧.counted shelf.new) }
+{
+    let cell = cell_of(world, body, links)?;
+    match cell {
+        Some(logged) => {
+            log_part(world, shelf, rules, id, site, body, links, logged, events)?;
+            Ok(())
+        }
+        None => {
+            ask_part(world, shelf, rules, id, site, body, links, events)?;
+            Ok(())
+        }
+    }
 }
 
 // Runs an effect whose body has no statement.
