@@ -1,5 +1,5 @@
 -- Why a command is refused, and that it is done where it isn't.
-use Rattle.std.proofs.Common.{◌≡◌, ℕ, arith, Bool, cond, List, [], ◌∷◌, ◌++◌, Result, Ok, Err, IfOk, OnOk, Option, Some, None, refl, sym, ap, subst, ◌∙◌}
+use Rattle.std.proofs.Common.{◌≡◌, ℕ, arith, Bool, false, cond, List, [], ◌∷◌, ◌++◌, Result, Ok, Err, IfOk, OnOk, Option, Some, None, is_some, refl, sym, ap, subst, ◌∙◌}
 use Rattle.std.specs.Option.{option_or, option_map_or}
 use Rattle.std.specs.Str.{bytes_eq}
 use Rattle.signal_model.specs.Recipes.{Hosts}
@@ -11,6 +11,7 @@ use Rattle.effect_world.specs.Wholes.{whole_of}
 use Rattle.sig_host.specs.Hosts.{HostPlace}
 use Rattle.sig_base.specs.declared.scalar.Scalar.{Scalar}
 use Rattle.sig_effect.specs.Stores.{environment}
+use Rattle.live_cmd.specs.declared.command.Bare.TheVariants as bares
 use Rattle.live_cmd.specs.declared.command.Command.{Command}
 use Rattle.live_cmd.specs.declared.command.Command.TheVariants as command
 use Rattle.live_cmd.specs.declared.command.Item.TheVariants as item
@@ -31,8 +32,8 @@ use Rattle.live_model.specs.Machine.{batch_refusal, body_refusal, done, later_re
 use Rattle.live_core.specs.declared.machine.Machine.{Machine}
 use Rattle.live_core.specs.Consistency.{AreFine, IsReady, Leaves, Steps}
 use Rattle.live_core.specs.Doing.{Did, DidFor}
-use Rattle.live_core.specs.Views.{plain_of}
-use Rattle.live_core.proofs.Shared.{neither}
+use Rattle.live_core.specs.Views.{batch_of, plain_of}
+use Rattle.live_core.proofs.Shared.{neither, none_there}
 
 -- an answer with none behind it
 pub alone : {A : Type 0} (o : Option A) → o ≡ option_or (option_or o None) None
@@ -231,6 +232,11 @@ get_refused slacks m n =
     last_of (batch_refusal m.batch (command.Named verb.Get n)) (option_or (name_refusal m (command.Named verb.Get n)) (later_refusal slacks m (command.Named verb.Get n)))
     (refusal_at m.world (n, need.Signal) (meaning_of m.names n)) (get_in_any m.batch n)
     (thrice (refusal_at m.world (n, need.Signal) (meaning_of m.names n)))
+
+-- where no batch is open, a flush isn't refused
+pub flush_alone : (slacks : List ℕ) (asked : List HostPlace) (m : Machine) → is_some m.batch ≡ false → refusal_of slacks (plain_of asked m) (command.Bare bares.Flush) ≡ None
+flush_alone slacks asked m none =
+    ap (λ (b : Option Batch). option_or (batch_refusal b (command.Bare bares.Flush)) None) (ap batch_of (none_there m.batch none))
 
 -- what is refused tells that, by whatever hosts
 pub refused_steps : {A E : Type 0} (r : Result A E) (items : A → List Entry) (hosts : Hosts) (asked : List HostPlace) (m : Machine) (next : plain.Told) (why : Refusal) →

@@ -6,6 +6,7 @@ ghost use Rattle.sig_effect.specs.declared.errors.EffectFault.TheVariants as fau
 ghost use Rattle.sig_effect.specs.Stores.{environment, AreRuled};
 ghost use Rattle.effect_world.specs.Costs.{weight};
 ghost use Rattle.effect_world.specs.Stores.{AreOwned, IsSound};
+ghost use Rattle.live_cmd.specs.declared.command.Bare.TheVariants as bares;
 ghost use Rattle.live_cmd.specs.declared.command.Command.TheVariants as command;
 ghost use Rattle.live_cmd.specs.declared.command.Item.TheVariants as item;
 ghost use Rattle.live_cmd.specs.declared.command.Verb.TheVariants as verb;
@@ -16,7 +17,7 @@ ghost use Rattle.live_core.specs.Doing.{CanAsk, CanDo, DidFor};
 ghost use Rattle.live_core.specs.Views.{plain_of};
 
 use crate::refusals::refusal_of;
-use live_cmd::{Command, Item, Verb};
+use live_cmd::{Bare, Command, Item, Verb};
 use live_core::{Machine, one};
 use live_entries::{Entry, Refusal};
 use live_model::{Kind, Need};
@@ -147,7 +148,9 @@ fn get(machine: &mut Machine, shelf: &mut Shelf, name: Name) -> Result<Vec<Entry
     Ok(told)
 }
 
-// Does what a verb says to a name, or refuses it. The runs on the way to what a `get` tells are told only where a trace is asked for.
+// Does what a verb says to a name, or refuses it. The runs on the way to what a `get` tells are told only where a trace is asked for. A frame of its
+// own keeps what it needs away from other commands.
+#[inline(never)]
 fn try_verb(
     machine: &mut Machine,
     shelf: &mut Shelf,
@@ -170,7 +173,48 @@ fn try_verb(
     }
 }
 
-// Does a command, or refuses it. What scripts say most, to set and to get, is looked at before all others.
+// Brings the effects that are due and the pages up to date, or refuses that, which only an open batch may be a reason for.
+fn try_flush(
+    machine: &mut Machine,
+    shelf: &mut Shelf,
+    rules: &[EqualsRule],
+    traced: bool,
+) -> Result<Vec<Entry>, NoMemory>
+    requires can { CanDo (⟦<Shelf as Lent>⟧.asked shelf.old) (length rules.now) machine.old (⟦<Shelf as Lent>⟧.counted shelf.old) (2 ^ 124) }
+    ensures did { IfOk result (λ es. DidFor traced (⟦<Shelf as Lent>⟧.asked shelf.old) (⟦<Shelf as Lent>⟧.asked shelf.new) (length rules.now) machine.old machine.new
+        (λ hosts. ⟦<Shelf as Lent>⟧.answers hosts shelf.old) (λ hosts. ⟦<Shelf as Lent>⟧.answers hosts shelf.new) (⟦<Shelf as Lent>⟧.counted shelf.new) (2 ^ 80)
+        es.items (λ hosts. step (environment hosts (map (λ r. r.slack) rules.now)) (plain_of (⟦<Shelf as Lent>⟧.asked shelf.old) machine.old)
+        (item.Do (command.Bare bares.Flush)))) }
+{
+    if machine.batch.is_some() {
+        return try_command(machine, shelf, rules, Command::Bare(Bare::Flush), traced);
+    }
+    match machine.flush(shelf, rules) {
+        Ok(entries) => Ok(entries),
+        Err(fault) => Err(memory_of(fault)),
+    }
+}
+
+// Does a command of one word, or refuses it.
+fn try_bare(
+    machine: &mut Machine,
+    shelf: &mut Shelf,
+    rules: &[EqualsRule],
+    bare: Bare,
+    traced: bool,
+) -> Result<Vec<Entry>, NoMemory>
+    requires can { CanDo (⟦<Shelf as Lent>⟧.asked shelf.old) (length rules.now) machine.old (⟦<Shelf as Lent>⟧.counted shelf.old) (2 ^ 124) }
+    ensures did { IfOk result (λ es. DidFor traced (⟦<Shelf as Lent>⟧.asked shelf.old) (⟦<Shelf as Lent>⟧.asked shelf.new) (length rules.now) machine.old machine.new
+        (λ hosts. ⟦<Shelf as Lent>⟧.answers hosts shelf.old) (λ hosts. ⟦<Shelf as Lent>⟧.answers hosts shelf.new) (⟦<Shelf as Lent>⟧.counted shelf.new) (2 ^ 80)
+        es.items (λ hosts. step (environment hosts (map (λ r. r.slack) rules.now)) (plain_of (⟦<Shelf as Lent>⟧.asked shelf.old) machine.old) (item.Do (command.Bare bare)))) }
+{
+    match bare {
+        Bare::Flush => try_flush(machine, shelf, rules, traced),
+        _ => try_command(machine, shelf, rules, Command::Bare(bare), traced),
+    }
+}
+
+// Does a command, or refuses it. What scripts say most, to set, to get and to flush, is looked at before all others.
 fn do_command(
     machine: &mut Machine,
     shelf: &mut Shelf,
@@ -187,6 +231,7 @@ fn do_command(
     match command {
         Command::Set { name, value } => try_set(machine, rules, name, value),
         Command::Named { verb, name } => try_verb(machine, shelf, rules, verb, name, traced),
+        Command::Bare(bare) => try_bare(machine, shelf, rules, bare, traced),
         command => try_command(machine, shelf, rules, command, traced),
     }
 }

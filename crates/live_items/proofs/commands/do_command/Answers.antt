@@ -12,3 +12,6 @@ returns-in-Set g c = record {
       (λ hosts sound. c.try_set.ensures.steps hosts _ sound)
       (λ hosts sound. c.try_set.ensures.leaves hosts _ (length c.args.rules.now) sound)));
 }
+
+pub returns-in-Bare : goal.returns-in-Bare
+returns-in-Bare g c = record { did = rw c.in-Bare.is c.try_bare.ensures.did }
