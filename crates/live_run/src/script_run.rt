@@ -13,7 +13,7 @@ ghost use Rattle.live_model.specs.Machine.{empty};
 ghost use Rattle.live_core.specs.Consistency.{IsReadItem, SomeHosts};
 ghost use Rattle.live_run.specs.Jobs.{DidItem, DidNext};
 
-use live_cmd::{Command, Item, Verb};
+use live_cmd::{Bare, Command, Item, Verb};
 use live_items::{Live, Running};
 use live_report::Report;
 use live_words::ScriptJob;
@@ -98,7 +98,7 @@ impl ScriptRun {
     }
 
     // Does what scripts say most, with the clauses of an item. No item is made of a `set`, which is only counted, nor of a `get` where the report
-    // takes in nothing of an item but what it tells, and then no list of its one entry either.
+    // takes in nothing of an item but what it tells, and then no list of its one entry either. A `flush` is an item without parts.
     fn do_brief(&mut self, brief: Brief) -> Result<(), NoMemory>
         requires kept { ⟦<Live as Running>⟧.kept self.old.live }
         requires meant { self.old.live.broken ≡ false → SomeHosts (λ hosts. ⟦<Shelf as Lent>⟧.answers hosts self.old.live.shelf × ⟦<Live as Running>⟧.sound hosts self.old.live) }
@@ -132,6 +132,7 @@ impl ScriptRun {
                 self.report.take_entries(&mut self.out, &told)?;
                 Ok(())
             }
+            Brief::Flush => self.do_item(Item::Do(Command::Bare(Bare::Flush))),
         }
     }
 

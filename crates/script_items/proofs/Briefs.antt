@@ -13,16 +13,17 @@ use Rattle.line_forms.proofs.Shared.{kept_all, name_is, name_word, said_whole, t
 use Rattle.script_lines.specs.Lines.{kept_lines, numbered}
 use Rattle.script_lines.specs.Pieces.{Piece, outside, pieces, pieces_of}
 use Rattle.script_lines.proofs.Shared.{line_alone}
+use Rattle.live_cmd.specs.declared.command.Bare.TheVariants as bares
 use Rattle.live_cmd.specs.declared.command.Command.TheVariants as command
 use Rattle.live_cmd.specs.declared.command.Item.{Item}
 use Rattle.live_cmd.specs.declared.command.Item.TheVariants as item
 use Rattle.live_cmd.specs.declared.command.Verb.TheVariants as verbs
-use Rattle.live_cmd.specs.Grammar.{commands, set, verb, Said, Writes, is_alone}
+use Rattle.live_cmd.specs.Grammar.{bare, commands, set, verb, Said, Writes, is_alone}
 use Rattle.script_items.specs.Items.{Begins}
 use Rattle.script_items.specs.Briefs.{IsShort, IsWholeLine}
 use Rattle.script_items.specs.Views.{IsPlain}
 use Rattle.script_items.proofs.Blocks.{too_few}
-use Rattle.script_items.proofs.Commonest.{plain_get, plain_set, set_printed}
+use Rattle.script_items.proofs.Commonest.{plain_flush, plain_get, plain_set, set_printed}
 use Rattle.script_items.proofs.FirstWords.{begins_none}
 use Rattle.script_items.proofs.Items.{is_plain}
 
@@ -60,6 +61,12 @@ pub set_line : (p q n : List ℕ) (v : Scalar) → Some n ≡ name_of (word p) �
 set_line p q n v e h =
     let told = set_printed p q n v e h in
     printed_line (set, (p, (v, tt))) (codes "set " ++ (p ++ 32 ∷ q)) (item.Do (command.Set n v)) told.0 told.1 refl (λ k. plain_set k (p ++ 32 ∷ q) p q n v refl e h)
+
+-- `flush`
+pub flush_line : IsWholeLine (codes "flush") (item.Do (command.Bare bares.Flush))
+flush_line =
+    printed_line (bare bares.Flush, tt) (codes "flush") (item.Do (command.Bare bares.Flush)) refl (text_writes commands (bare bares.Flush, tt) refl tt) refl
+    plain_flush
 
 -- ---- where it stands
 

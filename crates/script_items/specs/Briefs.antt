@@ -7,6 +7,7 @@ use Rattle.sig_base.specs.declared.scalar.Scalar.{Scalar}
 use Rattle.sig_base.specs.declared.scalar.Scalar.TheVariants as scalar
 use Rattle.script_lines.specs.Lines.{kept_lines}
 use Rattle.script_lines.specs.Pieces.{begins_block}
+use Rattle.live_cmd.specs.declared.command.Bare.TheVariants as bare
 use Rattle.live_cmd.specs.declared.command.Command.TheVariants as command
 use Rattle.live_cmd.specs.declared.command.Item.{Item}
 use Rattle.live_cmd.specs.declared.command.Item.TheVariants as item
@@ -19,6 +20,7 @@ use Rattle.script_items.specs.Views.{IsPlain}
 abbrev pub brief_item : Brief → Item
 brief_item (brief.Get n) = item.Do (command.Named verb.Get n)
 brief_item (brief.Set n v) = item.Do (command.Set n v)
+brief_item brief.Flush = item.Do (command.Bare bare.Flush)
 
 -- bytes are a whole number or a truth, as it is printed
 abbrev pub IsShort : Scalar → List ℕ → Type 0

@@ -3,7 +3,7 @@ ghost use Rattle.std.specs.Prelude.{◌≡◌, ◌+◌, ◌-◌, ◌^◌, ◌<�
 ghost use Rattle.script_items.specs.Items.{Begins};
 ghost use Rattle.script_items.specs.Briefs.{brief_item, IsFront};
 
-use crate::common::{behind_word, parted};
+use crate::common::{behind, behind_front, behind_word, parted};
 use crate::known::KnownNames;
 use crate::short::short;
 use sig_base::{MOST_LINE, Name, NoMemory, Scalar};
@@ -15,6 +15,8 @@ pub enum Brief {
     Get(Name),
     /// `set N LIT`
     Set(Name, Scalar),
+    /// `flush`
+    Flush,
 }
 
 // `get N`, behind the word and a blank, and how many bytes stand behind its LF.
@@ -49,6 +51,17 @@ fn set(known: &KnownNames, line: &[u8]) -> Result<Option<(Brief, usize)>, NoMemo
     Ok(Some((Brief::Set(name, value), rest.len())))
 }
 
+// `flush`, behind its first letter, and how many bytes stand behind its LF.
+fn flush(text: &[u8]) -> Option<(Brief, usize)>
+    ensures { IfSome result (λ x. IsFront (codes "f" ++ text.now) x.0 x.1) }
+{
+    let Some(rest) = behind_front(text, b"lush\n") else {
+        return None;
+    };
+    let brief = Brief::Flush;
+    Some((brief, rest.len()))
+}
+
 // What the first of lines is, if it is one of these, and how many bytes stand behind its LF.
 fn first(known: &KnownNames, bytes: &[u8]) -> Result<Option<(Brief, usize)>, NoMemory>
     ensures { IfOk result (λ found. IfSome found (λ x. IsFront bytes.now x.0 x.1)) }
@@ -58,6 +71,9 @@ fn first(known: &KnownNames, bytes: &[u8]) -> Result<Option<(Brief, usize)>, NoM
     }
     if let Some(text) = behind_word(bytes, b's', b'e', b't') {
         return set(known, text);
+    }
+    if let Some(text) = behind(bytes, b'f') {
+        return Ok(flush(text));
     }
     Ok(None)
 }

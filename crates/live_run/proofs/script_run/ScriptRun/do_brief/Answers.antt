@@ -49,3 +49,6 @@ returns-in_ok-take_entries-in-Set-clause-did g c = λ hosts all sound.
       s.1,
       s.2,
     )
+
+pub returns-in-Flush-clause-did : goal.returns-in-Flush-clause-did
+returns-in-Flush-clause-did g c = λ hosts all sound. rw c.in-Flush.is (c.do_item-in-Flush.ensures.did hosts all sound)
