@@ -1,5 +1,5 @@
 mod Flagged
 mod Occupancy
 mod Trails
-mod FoundSeats
+mod NotedFinds
 pub mod Shared

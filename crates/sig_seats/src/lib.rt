@@ -1,4 +1,4 @@
-//! Seats, in tables that are made once: who has each, what a search has reached and found, and the way that it went.
+//! Tables that are made once: who has each seat, which seats a search has reached, what it has found, and the way that it went.
 #![tactic(auto)]
 
 mod finds;

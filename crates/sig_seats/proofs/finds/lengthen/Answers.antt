@@ -1,6 +1,7 @@
-use Rattle.std.proofs.Common.{◌≡◌, ◌∙◌, ℕ, List, sym, subst, arith}
-use Rattle.sig_seats.specs.Found.{found_at}
-use Rattle.sig_seats.proofs.FoundSeats.{found_more}
+use Rattle.std.proofs.Common.{◌≡◌, ◌∙◌, List, sym, refl, subst, arith}
+use Rattle.sig_seats.specs.declared.finds.Found.{Found}
+use Rattle.sig_seats.specs.Found.{held_at}
+use Rattle.sig_seats.proofs.NotedFinds.{held_more}
 use Rattle.sig_seats.proofs.finds.lengthen.Goals as goal
 
 pub loop-at-preserved : goal.loop-at-preserved
@@ -8,6 +9,6 @@ loop-at-preserved c =
     let inv = c.loop-at.invariant in
     let more = c.push_reserved.ensures.capacity in
     record {
-      found = λ s. subst (λ (fs : List ℕ). found_at fs s ≡ found_at c.args.at.now.items s) (sym c.push_reserved.ensures.items) (found_more c.loop-at.at.items s ∙ inv.found s);
+      held = λ s n. subst (λ (fs : List Found). held_at fs s n ≡ held_at c.args.at.now.items s n) (sym c.push_reserved.ensures.items) (held_more c.loop-at.at.items _ s n refl ∙ inv.held s n);
       room = let r = inv.room in omega (arith, more, r);
     }

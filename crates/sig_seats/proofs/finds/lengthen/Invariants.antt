@@ -1,13 +1,13 @@
 use Rattle.std.proofs.Common.{◌≡◌, ℕ, ◌-◌, ◌+◌, ◌≤◌, length}
 use Rattle.std.specs.Prelude.{vec_capacity}
-use Rattle.sig_seats.specs.Found.{found_at}
+use Rattle.sig_seats.specs.Found.{held_at}
 use Rattle.sig_seats.proofs.finds.lengthen.Given as goal
 
 abbrev pub decreases-loop-at : goal.decreases-loop-at
-decreases-loop-at l = l.seat + 1 - length l.at.items
+decreases-loop-at l = l.place + 1 - length l.at.items
 
 abbrev pub invariant-loop-at : goal.invariant-loop-at
 invariant-loop-at l = record {
-  found : (s : ℕ) → found_at l.at.items s ≡ found_at l.fn.at.items s;
+  held : (s n : ℕ) → held_at l.at.items s n ≡ held_at l.fn.at.items s n;
   room : vec_capacity l.fn.at ≤ vec_capacity l.at;
 }

@@ -1,18 +1,36 @@
 use Rattle.std.proofs.Common.{◌≡◌, ◌⊎◌, ℕ, List, subst, arith}
 use Rattle.std.specs.Prelude.{slice_set}
-use Rattle.sig_seats.specs.Found.{found_at}
-use Rattle.sig_seats.proofs.FoundSeats.{found_here, found_written}
+use Rattle.sig_seats.specs.declared.finds.Found.{Found}
+use Rattle.sig_seats.specs.Found.{found_at, place_of}
+use Rattle.sig_seats.proofs.NotedFinds.{held_here, held_written, noted_here, noted_others}
 use Rattle.sig_seats.proofs.finds.Finds.note.Goals as goal
 
-pub returns-then-seat-len-clause-here : goal.returns-then-seat-len-clause-here
-returns-then-seat-len-clause-here c = λ inside. found_here c.self.inside.at.items c.args.seat c.args.worn (omega arith)
+-- what is found after a note is as before, is noted, or is forgotten
+abbrev Others : List Found → List Found → ℕ → ℕ → ℕ → Type 0
+Others fs us id w n = (found_at us n ≡ found_at fs n) ⊎ (((n ≡ id) × (found_at us n ≡ w)) ⊎ ((place_of n ≡ place_of id) × (found_at us n ≡ 0)))
 
-pub returns-then-seat-len-clause-others : goal.returns-then-seat-len-clause-others
-returns-then-seat-len-clause-others c = λ s.
-    let us = slice_set c.self.inside.at.items c.args.seat c.args.worn in
-    subst (λ (fs : List ℕ). (found_at us s ≡ found_at fs s) ⊎ ((s ≡ c.args.seat) × (found_at us s ≡ c.args.worn))) c.self.view_is (found_written c.self.inside.at.items c.args.seat c.args.worn s)
+pub returns-then-place-len-clause-here : goal.returns-then-place-len-clause-here
+returns-then-place-len-clause-here c =
+    let fs = c.self.inside.at.items in
+    let s = c.place_of-place.result in
+    let f : Found = record { id = c.args.id; worn = c.args.worn } in
+    noted_here (slice_set fs s f) s c.args.id c.args.worn c.place_of-place.ensures.place (held_here fs s c.args.id f (omega arith))
 
-pub returns-else-seat-len-clause-others : goal.returns-else-seat-len-clause-others
-returns-else-seat-len-clause-others c = λ s.
+pub returns-then-place-len-clause-others : goal.returns-then-place-len-clause-others
+returns-then-place-len-clause-others c = λ n.
+    let fs = c.self.inside.at.items in
+    let s = c.place_of-place.result in
+    let f : Found = record { id = c.args.id; worn = c.args.worn } in
+    let us = slice_set fs s f in
+    subst (λ (gs : List Found). Others gs us c.args.id c.args.worn n) c.self.view_is
+    (noted_others fs us s c.args.id c.args.worn c.place_of-place.ensures.place (held_written fs s f) n)
+
+pub returns-else-place-len-clause-here : goal.returns-else-place-len-clause-here
+returns-else-place-len-clause-here c =
+    noted_here c.note_later.new.at.items c.place_of-place.result c.args.id c.args.worn c.place_of-place.ensures.place (c.note_later.ensures.here c.args.id)
+
+pub returns-else-place-len-clause-others : goal.returns-else-place-len-clause-others
+returns-else-place-len-clause-others c = λ n.
     let us = c.note_later.new.at.items in
-    subst (λ (fs : List ℕ). (found_at us s ≡ found_at fs s) ⊎ ((s ≡ c.args.seat) × (found_at us s ≡ c.args.worn))) c.self.view_is (c.note_later.ensures.noted s)
+    subst (λ (gs : List Found). Others gs us c.args.id c.args.worn n) c.self.view_is
+    (noted_others c.self.inside.at.items us c.place_of-place.result c.args.id c.args.worn c.place_of-place.ensures.place c.note_later.ensures.others n)
