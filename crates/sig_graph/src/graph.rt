@@ -169,7 +169,7 @@ impl Graph {
         self.generation += 1;
         self.worn += 1;
         let before = set_value_at(&mut self.nodes, id, value);
-        note_fresh(&self.nodes, self.worn, self.marks.fresh(), &mut self.finds);
+        note_fresh(self.worn, self.marks.fresh(), &mut self.finds);
         before
     }
 

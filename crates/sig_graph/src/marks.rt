@@ -1,7 +1,7 @@
 // What must run.
-ghost use Rattle.std.specs.Prelude.{◌≡◌, ◌&&◌, [], true, false, IfSome, IfNone, slice_get};
+ghost use Rattle.std.specs.Prelude.{◌≡◌, ◌&&◌, [], slice_get};
 ghost use Rattle.signal_model.specs.Memos.{must_run_by, some_moved, sources_in};
-ghost use Rattle.sig_nodes.specs.Nodes.{body_at, has_differed, is_computed_body, memo_body, seat_at};
+ghost use Rattle.sig_nodes.specs.Nodes.{has_differed, is_computed_body, memo_body};
 ghost use Rattle.sig_graph.specs.Parts.{memos_of};
 ghost use Rattle.sig_graph.specs.Search.{is_due_at};
 
@@ -56,27 +56,5 @@ pub(crate) fn is_due(nodes: &Nodes, generation: u128, id: NodeId) -> bool
     match nodes.at(id) {
         Some(node) => is_node_due(nodes, generation, node),
         None => false,
-    }
-}
-
-// The seat of a node, none where no computed lives in it.
-fn seat_of(node: &Node) -> Option<usize>
-    ensures some { IfSome result (λ s. (is_computed_body node.now.body ≡ true) × (s ≡ node.now.seat)) }
-    ensures none { IfNone result (is_computed_body node.now.body ≡ false) }
-{
-    match node.body {
-        Body::Computed(_) => Some(node.seat),
-        _ => None,
-    }
-}
-
-/// The seat of a computed, none where no computed stands.
-pub(crate) fn computed_seat(nodes: &Nodes, id: NodeId) -> Option<usize>
-    ensures some { IfSome result (λ s. (is_computed_body (body_at nodes.now.items id) ≡ true) × (s ≡ seat_at nodes.now.items id)) }
-    ensures none { IfNone result (is_computed_body (body_at nodes.now.items id) ≡ false) }
-{
-    match nodes.at(id) {
-        Some(node) => seat_of(node),
-        None => None,
     }
 }

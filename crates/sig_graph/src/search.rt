@@ -1,16 +1,17 @@
 // The search for a computed that must run, among what is marked below a computed.
-ghost use Rattle.std.specs.Prelude.{◌≡◌, ℕ, ◌+◌, ◌*◌, ◌<◌, ◌≤◌, ◌++◌, ◌∷◌, ◌&&◌, [], length, not, true, false, Some, IfNone, IfSome, is_some, slice_get};
+ghost use Rattle.std.specs.Prelude.{◌≡◌, ℕ, ◌+◌, ◌*◌, ◌<◌, ◌≤◌, ◌++◌, ◌∷◌, ◌&&◌, [], length, not, true, false, List, Some, IfNone, IfSome, is_some, slice_get};
 ghost use Rattle.std.specs.Option.{option_map};
 ghost use Rattle.signal_model.specs.Signals.{is_in};
 ghost use Rattle.signal_model.specs.Memos.{source_names, sources_in};
 ghost use Rattle.signal_model.specs.Marks.{mark_of};
 ghost use Rattle.sig_graph.specs.Looks.{is_clean_mark};
+ghost use Rattle.sig_nodes.specs.declared.node.Node.{Node};
 ghost use Rattle.sig_nodes.specs.Nodes.{body_at, is_computed_body, memo_body, seat_at};
 ghost use Rattle.sig_graph.specs.Parts.{memos_of, signals_of};
 ghost use Rattle.sig_graph.specs.Places.{CanSearch, KeepsFound};
 ghost use Rattle.sig_graph.specs.Search.{first_new, is_due_at, is_new, AreDue, AreSeated, HasDue, IsWay, Reaches};
 
-use crate::marks::{computed_seat, is_node_due};
+use crate::marks::is_node_due;
 use sig_base::{MOST_NODES, NodeId};
 use sig_marks::Marks;
 use sig_nodes::{Body, Node, Nodes, seat_at, sources_at};
@@ -68,13 +69,21 @@ fn next_below<'a>(
 }
 
 // Whether it is told without a search that a computed, or something below it, must run: a search has found it, or it must run itself.
-fn is_told(nodes: &Nodes, generation: u128, worn: u128, node: &Node, finds: &Finds) -> bool
-    requires live { is_computed_body node.now.body ≡ true }
+fn is_told(
+    nodes: &Nodes,
+    generation: u128,
+    worn: u128,
+    id: NodeId,
+    node: &Node,
+    finds: &Finds,
+) -> bool
+    requires live { is_computed_body (body_at nodes.now.items id) ≡ true }
+    requires node { slice_get nodes.now.items id ≡ Some node.now }
     requires kept { KeepsFound nodes.now.items generation worn finds.now }
-    ensures due { result ≡ true → (n : ℕ) → slice_get nodes.now.items n ≡ Some node.now → HasDue nodes.now.items generation n }
-    ensures calm { result ≡ false → (n : ℕ) → slice_get nodes.now.items n ≡ Some node.now → is_due_at nodes.now.items generation n ≡ false }
+    ensures due { result ≡ true → HasDue nodes.now.items generation id }
+    ensures calm { result ≡ false → is_due_at nodes.now.items generation id ≡ false }
 {
-    finds.is_found(worn, node.seat) || is_node_due(nodes, generation, node)
+    finds.is_found(worn, id) || is_node_due(nodes, generation, node)
 }
 
 // Goes to a computed, whose seat is reached from then on.
@@ -123,7 +132,7 @@ fn turn(
     };
     trail.enter(id);
     go_to(next.id, next.node.seat, reached, trail);
-    is_told(nodes, generation, worn, next.node, finds)
+    is_told(nodes, generation, worn, next.id, next.node, finds)
 }
 
 // Goes on from where the search is, and tells whether it comes to what must run. The trail leads there then, and else is empty.
@@ -153,34 +162,22 @@ fn goes_to_due(
     false
 }
 
-// Notes that a computed, or something below it, must run.
-#[inline(always)]
-fn note(nodes: &Nodes, worn: u128, id: NodeId, finds: &mut Finds)
-    requires { AreSeated nodes.now.items MOST_NODES }
-    ensures { (g : ℕ) → HasDue nodes.now.items g id → KeepsFound nodes.now.items g worn finds.old → KeepsFound nodes.now.items g worn finds.new }
-{
-    if let Some(seat) = computed_seat(nodes, id) {
-        finds.note(worn, seat);
-    }
-}
-
-// The same of all on a trail, which is empty then.
-fn note_all(nodes: &Nodes, worn: u128, trail: &mut Trail, finds: &mut Finds)
-    requires { AreSeated nodes.now.items MOST_NODES }
-    ensures { (g : ℕ) → AreDue nodes.now.items g trail.old → KeepsFound nodes.now.items g worn finds.old → KeepsFound nodes.now.items g worn finds.new }
+// Notes of all on a trail, which is empty then, that they, or something below them, must run.
+fn note_all(worn: u128, trail: &mut Trail, finds: &mut Finds)
+    ensures { (xs : List Node) (g : ℕ) → AreDue xs g trail.old → KeepsFound xs g worn finds.old → KeepsFound xs g worn finds.new }
 {
     while let Some(id) = trail.leave() {
-        note(nodes, worn, id, finds);
+        finds.note(worn, id);
     }
 }
 
-/// The same of all these, as each of them is so: a set makes those that it marks newly due, or something below them.
-pub(crate) fn note_fresh(nodes: &Nodes, worn: u128, fresh: &[u128], finds: &mut Finds)
-    requires { AreSeated nodes.now.items MOST_NODES }
-    ensures { (g : ℕ) → ((m : ℕ) → is_in m fresh.now ≡ true → HasDue nodes.now.items g m) → KeepsFound nodes.now.items g worn finds.old → KeepsFound nodes.now.items g worn finds.new }
+/// The same of all these, as each of them is so: a set makes those that it marks newly due, or something below them. It looks at no node.
+pub(crate) fn note_fresh(worn: u128, fresh: &[u128], finds: &mut Finds)
+    ensures { (xs : List Node) (g : ℕ) → ((m : ℕ) → is_in m fresh.now ≡ true → HasDue xs g m) →
+        KeepsFound xs g worn finds.old → KeepsFound xs g worn finds.new }
 {
     for number in fresh {
-        note(nodes, worn, NodeId::of(*number), finds);
+        finds.note(worn, NodeId::of(*number));
     }
 }
 
@@ -197,7 +194,8 @@ fn begin(nodes: &Nodes, id: NodeId, reached: &mut Reached, trail: &mut Trail)
 }
 
 /// Whether something below a computed that needn't run itself must run. Where nothing must, all seats that the search came to are reached
-/// afterwards. What it found is noted by seat, with the count of changes at which it did, and isn't searched for anew until the next change.
+/// afterwards. What it found is noted by id, with the count of changes at which it did, and is only searched for anew after the next change, or where
+/// another note took its place.
 pub(crate) fn finds_below(
     nodes: &Nodes,
     generation: u128,
@@ -216,7 +214,7 @@ pub(crate) fn finds_below(
 {
     begin(nodes, id, reached, trail);
     if goes_to_due(nodes, generation, worn, marks, finds, reached, trail) {
-        note_all(nodes, worn, trail, finds);
+        note_all(worn, trail, finds);
         return true;
     }
     false
@@ -239,7 +237,7 @@ pub(crate) fn node_told(
     ensures clean { IfSome result (λ b. b ≡ is_clean_mark (mark_of (signals_of nodes.now.items) (memos_of generation nodes.now.items) id)) }
     ensures calm { IfNone result (is_due_at nodes.now.items generation id ≡ false) }
 {
-    if finds.is_found(worn, node.seat) {
+    if finds.is_found(worn, id) {
         return Some(false);
     }
     if !marks.is_marked(id) {

@@ -54,12 +54,14 @@ fn is_idle(node: &Node) -> bool
     }
 }
 
-// Whether it is one of which a search has found at this count of changes that it, or something below it, must run.
-fn is_found(finds: &Finds, worn: u128, node: &Node) -> bool
+// Whether it is one of which a search has found at this count of changes that it, or something below it, must run. Its node is only
+// looked at where one has.
+#[inline(always)]
+fn is_found(finds: &Finds, worn: u128, id: NodeId, node: &Node) -> bool
     ensures idle { result ≡ true → (is_computed_body node.now.body && not (is_some (known_body node.now.body))) ≡ true }
-    ensures found { result ≡ true → found_at finds.now node.now.seat ≡ worn }
+    ensures found { result ≡ true → found_at finds.now id ≡ worn }
 {
-    is_idle(node) && finds.is_found(worn, node.seat)
+    finds.is_found(worn, id) && is_idle(node)
 }
 
 // Whether it is one that is marked.
@@ -113,7 +115,7 @@ fn node_look(
     let Some(node) = nodes.at(id) else {
         return SourceLook::Ready(has_gone(computation, place));
     };
-    if is_found(finds, worn, node) {
+    if is_found(finds, worn, id, node) {
         return SourceLook::Due(id);
     }
     if is_open(marks, node, id) {

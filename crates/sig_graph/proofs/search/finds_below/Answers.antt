@@ -20,9 +20,6 @@ goes_to_due-requires-clause-seats c = c.requires.can.seats
 pub goes_to_due-requires-clause-kept : goal.goes_to_due-requires-clause-kept
 goes_to_due-requires-clause-kept c = c.requires.can.kept
 
-pub note_all-requires : goal.note_all-requires
-note_all-requires c = c.requires.can.seats
-
 pub returns-clause-kept : goal.returns-clause-kept
 returns-clause-kept c = c.requires.can.kept
 
@@ -48,7 +45,7 @@ goes_to_due-requires-clause-most c =
 pub returns-then-goes_to_due-clause-kept : goal.returns-then-goes_to_due-clause-kept
 returns-then-goes_to_due-clause-kept c =
     let way = subst (λ (ns : List ℕ). IsWay c.args.nodes.now.items c.args.generation c.args.id ns) (sym c.begin.ensures.trail) refl in
-    c.note_all.ensures c.args.generation (c.goes_to_due.ensures.due c.if-goes_to_due.true c.args.id way).0 c.requires.can.kept
+    c.note_all.ensures c.args.nodes.now.items c.args.generation (c.goes_to_due.ensures.due c.if-goes_to_due.true c.args.id way).0 c.requires.can.kept
 
 pub returns-then-goes_to_due-clause-mark : goal.returns-then-goes_to_due-clause-mark
 returns-then-goes_to_due-clause-mark c =

@@ -1,7 +1,5 @@
 use Rattle.std.proofs.Common.{ap, inl, sym, ◌∙◌}
-use Rattle.sig_seats.specs.Found.{found_at}
 use Rattle.sig_graph.specs.Looks.{is_clean_mark}
-use Rattle.sig_nodes.proofs.Shared.{seat_got}
 use Rattle.sig_graph.proofs.Searches.{due_got, due_unclean, unmarked_clean}
 use Rattle.sig_graph.proofs.search.node_told.Goals as goal
 
@@ -9,7 +7,7 @@ pub returns-then-is_found-clause-clean : goal.returns-then-is_found-clause-clean
 returns-then-is_found-clause-clean c =
     let xs = c.args.nodes.now.items in
     due_unclean xs c.args.generation c.args.id c.requires.can.live
-    (c.requires.can.kept.due c.args.id c.requires.can.live (ap (found_at c.args.finds.now) (seat_got xs c.args.id c.args.node.now c.requires.node) ∙ c.is_found.ensures.found c.if-is_found.true))
+    (c.requires.can.kept.due c.args.id c.requires.can.live (c.is_found.ensures.found c.if-is_found.true))
 
 pub returns-then-not-is_marked-clause-clean : goal.returns-then-not-is_marked-clause-clean
 returns-then-not-is_marked-clause-clean c =

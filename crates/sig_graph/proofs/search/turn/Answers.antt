@@ -2,9 +2,9 @@ use Rattle.std.proofs.Common.{◌≡◌, ◌<◌, ◌++◌, ◌∷◌, [], ℕ, 
 use Rattle.signal_model.specs.Signals.{is_in}
 use Rattle.signal_model.specs.Memos.{source_names, sources_in}
 use Rattle.sig_base.specs.declared.limits.TheConstants.{MOST_NODES}
-use Rattle.sig_nodes.specs.Nodes.{body_at, is_computed_body, memo_body}
+use Rattle.sig_nodes.specs.Nodes.{body_at, memo_body}
 use Rattle.sig_graph.specs.Search.{AreDue, IsWay, Reaches}
-use Rattle.sig_nodes.proofs.Shared.{body_got, seat_got}
+use Rattle.sig_nodes.proofs.Shared.{seat_got}
 use Rattle.sig_graph.proofs.Walks.{first_found, keeps_name, listed_more, none_found, reach_left, reach_next, way_due}
 use Rattle.sig_graph.proofs.search.turn.Goals as goal
 
@@ -45,7 +45,10 @@ pub is_told-requires-clause-live : goal.is_told-requires-clause-live
 is_told-requires-clause-live c =
     let xs = c.args.nodes.now.items in
     let new = first_found xs c.args.marks.now.marked c.args.reached.now (source_names (sources_in (memo_body (body_at xs c.args.id)))) c.in-Some.next.id c.in-Some.ensures.next in
-    ap is_computed_body (sym (body_got xs c.in-Some.next.id c.in-Some.next.node.now c.in-Some.ensures.node)) ∙ new.live
+    new.live
+
+pub is_told-requires-clause-node : goal.is_told-requires-clause-node
+is_told-requires-clause-node c = c.in-Some.ensures.node
 
 pub returns-clause-way : goal.returns-clause-way
 returns-clause-way c = λ root way.
@@ -61,7 +64,7 @@ returns-clause-due c = λ told root way.
     let g = c.args.generation in
     let new = first_found xs c.args.marks.now.marked c.args.reached.now (source_names (sources_in (memo_body (body_at xs c.args.id)))) c.in-Some.next.id c.in-Some.ensures.next in
     let trail = c.go_to.ensures.trail ∙ ap (λ (ns : List ℕ). c.in-Some.next.id ∷ ns) c.enter.ensures in
-    let all = way_due xs g root c.in-Some.next.id (c.args.id ∷ c.args.trail.now) (keeps_name xs g c.args.id c.in-Some.next.id ∙ new.among, way) (c.is_told.ensures.due told c.in-Some.next.id c.in-Some.ensures.node) in
+    let all = way_due xs g root c.in-Some.next.id (c.args.id ∷ c.args.trail.now) (keeps_name xs g c.args.id c.in-Some.next.id ∙ new.among, way) (c.is_told.ensures.due told) in
     (subst (λ (ns : List ℕ). AreDue xs g ns) (sym trail) all.0, all.1)
 
 pub returns-clause-part : goal.returns-clause-part
@@ -73,7 +76,7 @@ returns-clause-part c = λ calm.
     let next = c.in-Some.next.id in
     let new = first_found xs t ss (source_names (sources_in (memo_body (body_at xs c.args.id)))) next c.in-Some.ensures.next in
     let trail = c.go_to.ensures.trail ∙ ap (λ (ns : List ℕ). next ∷ ns) c.enter.ensures in
-    let r = reach_next xs t g next ss (c.args.id ∷ c.args.trail.now) c.requires.seats new.live (c.is_told.ensures.calm calm next c.in-Some.ensures.node) c.requires.part in
+    let r = reach_next xs t g next ss (c.args.id ∷ c.args.trail.now) c.requires.seats new.live (c.is_told.ensures.calm calm) c.requires.part in
     subst (λ (ns : List ℕ). Reaches xs t g c.go_to.new.reached ns) (sym trail)
     (subst (λ (rs : List ℕ). Reaches xs t g rs (next ∷ c.args.id ∷ c.args.trail.now)) (sym (c.go_to.ensures.reached ∙ ap (λ s. c.args.reached.now ++ s ∷ []) (sym (seat_got xs c.in-Some.next.id c.in-Some.next.node.now c.in-Some.ensures.node)))) r)
 

@@ -1,7 +1,4 @@
-use Rattle.std.proofs.Common.{◌&&◌, not, Some, sym, ap, ◌∙◌}
-use Rattle.std.specs.Prelude.{slice_get}
-use Rattle.sig_nodes.proofs.Shared.{seat_got}
-use Rattle.sig_seats.specs.Found.{found_at}
+use Rattle.std.proofs.Common.{sym, ◌∙◌}
 use Rattle.sig_graph.proofs.KeptLooks.{gone_here, marks_parts, open_here, ready_here}
 use Rattle.sig_graph.proofs.source_looks.node_look.Goals as goal
 
@@ -18,7 +15,7 @@ returns-then-is_found c = λ g kept.
     let node = c.in-Some.node.now in
     let got = c.in-Some.ensures.some in
     let idle = open_here xs id node _ got c.requires (c.is_found.ensures.idle c.if-is_found.true) in
-    (idle, kept.due id idle.computed (ap (found_at c.args.finds.now) (seat_got xs id node got) ∙ c.is_found.ensures.found c.if-is_found.true))
+    (idle, kept.due id idle.computed (c.is_found.ensures.found c.if-is_found.true))
 
 pub returns-then-is_open : goal.returns-then-is_open
 returns-then-is_open c = λ g kept.

@@ -1,6 +1,5 @@
 use Rattle.sig_graph.proofs.FreshDue.{fresh_due}
 use Rattle.sig_graph.proofs.KeptFinds.{raised_kept}
-use Rattle.sig_graph.proofs.Searches.{seats_apart}
 use Rattle.sig_graph.specs.Search.{HasDue}
 use Rattle.sig_graph.proofs.KeptMarks.{same_table, set_kept}
 use Rattle.std.proofs.Common.{◌≡◌, ℕ, true, refl, ◌+◌, ◌<◌, List, length, sym, ap, ◌∙◌, subst, arith}
@@ -32,15 +31,6 @@ spread-requires c =
     let live = cell_here c.self.inside.nodes.items c.args.id (ap (λ (s : Seen). is_cell (standing s.state.signals c.args.id)) c.self.view_is ∙ c.requires.live) in
     subst (λ z. c.args.id < z) (sym c.self.invariant.marks.flags) (cell_below c.self.inside.nodes.items c.args.id live)
 
-pub note_fresh-requires : goal.note_fresh-requires
-note_fresh-requires c =
-    let xs = c.self.inside.nodes.items in
-    let g = c.self.inside.generation in
-    let w = c.self.inside.worn in
-    seats_apart c.set_value_at-before.new.nodes.items c.self.inside.seats (g + 1) (w + 1)
-    (subst (λ (ys : List Node). NodesAgree ys c.self.inside.seats (g + 1) (w + 1)) (sym c.set_value_at-before.ensures.nodes)
-    (set_holds c.args.value c.args.id xs c.self.inside.seats g w c.self.invariant.fields))
-
 pub invariant_of-self : goal.invariant_of-self
 invariant_of-self c =
     let xs = c.self.inside.nodes.items in
@@ -52,7 +42,7 @@ invariant_of-self c =
           (set_holds c.args.value c.args.id xs c.self.inside.seats g c.self.inside.worn c.self.invariant.fields);
       marks = subst (λ (ys : List Node). KeepsMarks ys (g + 1) c.spread.new.self) (sym c.set_value_at-before.ensures.nodes)
           (same_table (changed_at (set_node c.args.value) c.args.id xs) (g + 1) c.spread.new.self c.self.inside.marks.dependants c.spread.new.self.marked c.self.inside.marks.stands c.spread.ensures.dependants refl c.spread.ensures.stands marks);
-      found = c.note_fresh.ensures (g + 1)
+      found = c.note_fresh.ensures c.set_value_at-before.new.nodes.items (g + 1)
           (λ m listed. subst (λ (ys : List Node). HasDue ys (g + 1) m) (sym c.set_value_at-before.ensures.nodes)
           (fresh_due c.args.value c.args.id xs g c.self.inside.marks live c.self.invariant.marks m
           (c.spread.ensures.fresh m (subst (λ (fs : List ℕ). is_in m fs ≡ true) c.fresh.ensures listed))))
