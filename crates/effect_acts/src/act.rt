@@ -1,5 +1,5 @@
 // The acts of a run.
-ghost use Rattle.std.specs.Prelude.{◌+◌, ◌<◌, ◌^◌, ℕ, List, OnOk, length, map, slice_get};
+ghost use Rattle.std.specs.Prelude.{◌<◌, ◌^◌, ℕ, List, OnOk, length, map, slice_get};
 ghost use Rattle.std.specs.Rc.{rc_value};
 ghost use Rattle.sig_base.specs.Values.{scalar_value};
 ghost use Rattle.effect_model.specs.Bodies.{to_make, to_note};
@@ -86,7 +86,6 @@ fn make_there(
     events: &mut Vec<Event>,
 ) -> Result<(), NoMemory>
     requires owned { AreOwned world.old }
-    requires counted { world.old.tables.effects_made + 1 < 2 ^ 128 }
     requires fits { IsFitting (rc_value site.now.script) }
     ensures { (asked : List HostPlace) (slacks : List ℕ) → Agrees asked world.old → OnOk result (Acted slacks
         (scene world.old asked events.old.items) (scene world.new asked events.new.items) any_hosts any_hosts 0

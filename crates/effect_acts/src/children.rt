@@ -1,5 +1,5 @@
 // An effect makes a child.
-ghost use Rattle.std.specs.Prelude.{◌≡◌, ◌⊎◌, ◌+◌, ◌<◌, ◌^◌, ℕ, false, List, IfErr, OnOk, IsErrOf};
+ghost use Rattle.std.specs.Prelude.{◌≡◌, ◌⊎◌, ℕ, false, List, IfErr, OnOk, IsErrOf};
 ghost use Rattle.std.specs.Rc.{rc_value};
 ghost use Rattle.effect_model.specs.Owners.{the_effect};
 ghost use Rattle.effect_model.specs.Runs.{make_child};
@@ -32,7 +32,6 @@ pub fn make_child(
     events: &mut Vec<Event>,
 ) -> Result<(), EffectFault>
     requires owned { AreOwned world.old }
-    requires counted { world.old.tables.effects_made + 1 < 2 ^ 128 }
     requires fits { IsFitting (rc_value site.now.script) }
     ensures done { (asked : List HostPlace) (slacks : List ℕ) → Agrees asked world.old → OnOk result (Acted slacks
         (scene world.old asked events.old.items) (scene world.new asked events.new.items) any_hosts any_hosts 0

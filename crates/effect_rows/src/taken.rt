@@ -11,10 +11,10 @@ use std::test::Fail;
 // What is to be taken back, by its number.
 #[derive(Clone, Copy)]
 enum Back {
-    Signal(u128),
-    Owner(u128),
-    Effect(u128),
-    Page(u128),
+    Signal(u64),
+    Owner(u64),
+    Effect(u64),
+    Page(u64),
 }
 
 // Whether a step takes this back.

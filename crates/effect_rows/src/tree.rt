@@ -14,7 +14,7 @@ use std::test::Fail;
 pub(crate) struct Tree {
     alloc: Global,
     tables: Tables,
-    signals: u128,
+    signals: u64,
 }
 
 impl Tree {
@@ -97,7 +97,7 @@ impl Tree {
     }
 
     /// How many owners were made, and how many effects and pages live.
-    pub(crate) fn counts(&self) -> (u128, usize, usize) {
+    pub(crate) fn counts(&self) -> (u64, usize, usize) {
         (
             self.tables.owners.made(),
             self.tables.effects.len(),

@@ -1,5 +1,5 @@
 // Owners, effects and pages are made.
-ghost use Rattle.std.specs.Prelude.{◌≡◌, ◌+◌, ◌<◌, ◌≤◌, ◌^◌, ◌⊎◌, ◌++◌, ◌∷◌, true, false, [], length, None, Some, IfOk, IfErr, IsErrOf, OnErr, OnOk};
+ghost use Rattle.std.specs.Prelude.{◌≡◌, ◌+◌, ◌<◌, ◌≤◌, ◌⊎◌, ◌++◌, ◌∷◌, true, false, [], length, None, Some, IfOk, IfErr, IsErrOf, OnErr, OnOk};
 ghost use Rattle.std.specs.Rc.{rc_value};
 ghost use Rattle.effect_model.specs.Commands.{with_new_effect, with_new_owner, with_new_page};
 ghost use Rattle.effect_model.specs.Worlds.{at_rest};
@@ -23,7 +23,7 @@ use crate::looks::{is_open, row_inside};
 use crate::noted::note_thing;
 use crate::tables::Tables;
 use crate::thing::Thing;
-use sig_base::{EffectId, MOST_PAGES, NoMemory, NodeId, OwnerId, PageId};
+use sig_base::{EffectId, MOST_PAGES, NoMemory, NodeId, OwnerId, PageId, one_given};
 use sig_owner::{OwnFault, Owners, Thing as Stored};
 use std::alloc::Global;
 
@@ -133,7 +133,6 @@ impl Tables {
         inside: Option<OwnerId>,
     ) -> Result<EffectId, OwnFault>
         requires holds { TablesAgree self.old }
-        requires counted { self.old.effects_made + 1 < 2 ^ 128 }
         requires fits { IsFitting script }
         ensures id { IfOk result (λ id. id ≡ self.old.effects_made) }
         ensures makes { OnOk result (Makes (λ w. w) None self.old self.new (with_new_effect (body_of self.old.effects_made script []) inside)) }
@@ -143,12 +142,13 @@ impl Tables {
         ensures err { IfErr result (λ e. (e ≡ fault.NoMemory) ⊎ (self.new ≡ self.old)) }
     {
         let outer = row_inside(&self.owners, inside)?;
+        let made = one_given(self.effects_made)?;
         let id = EffectId::of(self.effects_made);
         let row = make_for_in(&mut self.store, id, outer)?;
         let effect = Effect::named(alloc, id, row, script)?;
         note_thing(&mut self.things, row, Thing::Effect(id))?;
         self.effects.push(effect)?;
-        self.effects_made += 1;
+        self.effects_made = made;
         Ok(id)
     }
 
@@ -167,7 +167,6 @@ impl Tables {
         place: usize,
     ) -> Result<EffectId, NoMemory>
         requires holds { TablesAgree self.old }
-        requires counted { self.old.effects_made + 1 < 2 ^ 128 }
         requires stands { IsRowOf self.old.store parent row }
         requires fits { IsFitting (rc_value site.now.script) }
         ensures id { IfOk result (λ id. id ≡ self.old.effects_made) }
@@ -175,12 +174,13 @@ impl Tables {
             (with_child parent (body_of site.now.origin (rc_value site.now.script) (site.now.path.items ++ place ∷ [])))) }
         ensures made { OnOk result (self.new.effects_made ≡ self.old.effects_made + 1) }
     {
+        let made = one_given(self.effects_made)?;
         let id = EffectId::of(self.effects_made);
         let own_row = child_row(&mut self.store, id, row)?;
         let effect = Effect::child(alloc, id, own_row, site, place)?;
         note_thing(&mut self.things, own_row, Thing::Effect(id))?;
         self.effects.push(effect)?;
-        self.effects_made += 1;
+        self.effects_made = made;
         Ok(id)
     }
 
@@ -193,7 +193,6 @@ impl Tables {
     /// tables may only be dropped.
     pub fn make_page(&mut self, inside: Option<OwnerId>) -> Result<PageId, OwnFault>
         requires holds { TablesAgree self.old }
-        requires counted { self.old.pages_made + 1 < 2 ^ 128 }
         ensures id { IfOk result (λ id. id ≡ self.old.pages_made) }
         ensures makes { OnOk result (Makes at_rest None self.old self.new (with_new_page inside)) }
         ensures open { OnOk result (is_open (living 0 self.old.owners.items) inside ≡ true) }
@@ -207,10 +206,11 @@ impl Tables {
         if self.pages.len() >= MOST_PAGES {
             return Err(OwnFault::Limit);
         }
+        let made = one_given(self.pages_made)?;
         let id = PageId::of(self.pages_made);
         adopt_in(&mut self.store, outer, Stored::Page(id))?;
         self.pages.push(id)?;
-        self.pages_made += 1;
+        self.pages_made = made;
         Ok(id)
     }
 

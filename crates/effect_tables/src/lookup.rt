@@ -16,7 +16,7 @@ fn own_place(effects: &[Effect], id: EffectId) -> Option<usize>
     ensures { IfSome result (λ place. effect_place id effects.now ≡ Some place) }
 {
     let number = id.number();
-    if number >= effects.len() as u128 {
+    if number >= effects.len() as u64 {
         return None;
     }
     let place = number as usize;

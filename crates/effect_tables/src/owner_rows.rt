@@ -1,5 +1,5 @@
 // Owners by their own numbers.
-ghost use Rattle.std.specs.Prelude.{◌≡◌, ◌<◌, ◌+◌, ◌^◌, ◌++◌, ◌∷◌, [], length, Some, IfOk, OnOk};
+ghost use Rattle.std.specs.Prelude.{◌≡◌, ◌+◌, ◌++◌, ◌∷◌, [], length, Some, IfOk, OnOk};
 ghost use Rattle.effect_tables.specs.Owners.{closed_at, living};
 ghost use Rattle.sig_store.specs.Stored.{entry};
 
@@ -28,19 +28,6 @@ impl Model for OwnerRows {
     ghost invariant = { λ o. o.live ≡ length (living 0 o.rows.entries) };
 }
 
-// Makes room for one row more. There is none where each number was given.
-fn make_room(rows: &mut Store<OwnerId>) -> Result<(), NoMemory>
-    ensures room { OnOk result (0 < rows.new.room) }
-    ensures number { OnOk result (length rows.new.entries + 1 < 2 ^ 128) }
-    ensures entries { rows.new.entries ≡ rows.old.entries }
-{
-    if rows.made() == u128::MAX {
-        return Err(NoMemory);
-    }
-    rows.reserve(1)?;
-    Ok(())
-}
-
 // One more, where so many can be counted.
 fn one_more(count: usize) -> Result<usize, NoMemory>
     ensures { IfOk result (λ n. n ≡ count + 1) }
@@ -63,7 +50,7 @@ impl OwnerRows {
     }
 
     /// How many were made.
-    pub fn made(&self) -> u128
+    pub fn made(&self) -> u64
         ensures { result ≡ length self.now.items }
     {
         self.rows.made()
@@ -88,7 +75,7 @@ impl OwnerRows {
         ensures { OnOk result (self.new.items ≡ self.old.items ++ Some row ∷ []) }
     {
         let live = one_more(self.live)?;
-        make_room(&mut self.rows)?;
+        self.rows.reserve(1)?;
         self.rows.push(row);
         self.live = live;
         Ok(())

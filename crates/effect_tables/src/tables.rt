@@ -22,8 +22,8 @@ pub struct Tables {
     pub owners: OwnerRows,
     pub effects: Vec<Effect>,
     pub pages: Vec<PageId>,
-    pub effects_made: u128,
-    pub pages_made: u128,
+    pub effects_made: u64,
+    pub pages_made: u64,
 }
 
 impl Drop for Tables {

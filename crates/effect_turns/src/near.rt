@@ -25,7 +25,7 @@ pub(crate) fn effect_here(effects: &[Effect], place: usize, id: EffectId) -> Opt
 }
 
 /// The number of the effect at a place, where it is lower than a bound.
-pub(crate) fn id_below(effects: &[Effect], place: usize, bound: u128) -> Option<EffectId>
+pub(crate) fn id_below(effects: &[Effect], place: usize, bound: u64) -> Option<EffectId>
     ensures there { IfSome result (λ id. StandsAt id place effects.now) }
     ensures lower { IfSome result (λ id. id < bound) }
     ensures none { IfNone result (NoneLower bound place effects.now) }
@@ -41,7 +41,7 @@ pub(crate) fn id_below(effects: &[Effect], place: usize, bound: u128) -> Option<
 }
 
 // Whether at a place stands an effect whose number is lower than this.
-fn is_lower(effects: &[Effect], place: usize, low: u128) -> bool
+fn is_lower(effects: &[Effect], place: usize, low: u64) -> bool
     ensures within { IsTrue result → place < length effects.now }
     ensures lower { IsTrue result → IsLower low place effects.now }
     ensures higher { IsFalse result → NoneLower low place effects.now }
@@ -53,7 +53,7 @@ fn is_lower(effects: &[Effect], place: usize, low: u128) -> bool
 }
 
 // The place at or before another one that has lower numbers before it alone.
-fn back(effects: &[Effect], from: usize, low: u128) -> usize
+fn back(effects: &[Effect], from: usize, low: u64) -> usize
     requires { AreRising 0 effects.now }
     ensures { AllLower low result effects.now }
 {
@@ -68,7 +68,7 @@ fn back(effects: &[Effect], from: usize, low: u128) -> usize
 }
 
 // The place at or behind another one at which the numbers that aren't lower begin.
-fn onward(effects: &[Effect], from: usize, low: u128) -> usize
+fn onward(effects: &[Effect], from: usize, low: u64) -> usize
     requires rising { AreRising 0 effects.now }
     requires before { AllLower low from effects.now }
     ensures { Parts low result effects.now }
@@ -82,7 +82,7 @@ fn onward(effects: &[Effect], from: usize, low: u128) -> usize
 
 /// The place that parts the effects with lower numbers than this from the others. It is looked for from another place on, which is near it
 /// where few effects have ended.
-pub(crate) fn parting(effects: &[Effect], near: usize, low: u128) -> usize
+pub(crate) fn parting(effects: &[Effect], near: usize, low: u64) -> usize
     requires { AreRising 0 effects.now }
     ensures { Parts low result effects.now }
 {

@@ -37,7 +37,7 @@ pub(crate) fn is_quiet(world: &World, place: usize, id: EffectId) -> bool
 }
 
 /// The place of the next effect that may need a look, of those whose numbers aren't lower than this. It is looked for from a place on.
-pub(crate) fn next_loud(world: &World, near: usize, low: u128) -> usize
+pub(crate) fn next_loud(world: &World, near: usize, low: u64) -> usize
     requires tables { TablesAgree world.now.tables }
     requires heard { Hears world.now }
     ensures { IsNext low result world.now }

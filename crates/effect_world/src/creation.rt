@@ -1,5 +1,5 @@
 // Signals, owners, effects and pages are made.
-ghost use Rattle.std.specs.Prelude.{◌≡◌, ◌+◌, ◌<◌, ◌≤◌, ◌^◌, ℕ, [], List, None, Some, IfOk, OnOk, length};
+ghost use Rattle.std.specs.Prelude.{◌≡◌, ◌<◌, ◌≤◌, ℕ, [], List, None, Some, IfOk, OnOk, length};
 ghost use Rattle.sig_base.specs.declared.limits.TheConstants.{MOST_NODES, MOST_PAGES};
 ghost use Rattle.signal_model.specs.Recipes.{Hosts};
 ghost use Rattle.signal_model.specs.Changes.{live_count};
@@ -143,7 +143,6 @@ impl World {
         inside: Option<OwnerId>,
     ) -> Result<EffectId, OwnFault>
         requires owned { AreOwned self.old }
-        requires counted { self.old.tables.effects_made + 1 < 2 ^ 128 }
         requires fits { IsFitting script }
         ensures id { IfOk result (λ id. id ≡ self.old.tables.effects_made) }
         ensures does { (hosts : Hosts) (asked : List HostPlace) → IsSound hosts asked self.old →
@@ -167,7 +166,6 @@ impl World {
     /// world may only be dropped.
     pub fn make_page(&mut self, inside: Option<OwnerId>) -> Result<PageId, OwnFault>
         requires owned { AreOwned self.old }
-        requires counted { self.old.tables.pages_made + 1 < 2 ^ 128 }
         ensures id { IfOk result (λ id. id ≡ self.old.tables.pages_made) }
         ensures does { (hosts : Hosts) (asked : List HostPlace) → IsSound hosts asked self.old →
             OnOk result (Does hosts asked asked self.old self.new [] [] (with_new_page inside)) }

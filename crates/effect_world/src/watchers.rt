@@ -1,5 +1,5 @@
 // Watchers are made, and watch.
-ghost use Rattle.std.specs.Prelude.{◌≡◌, ◌+◌, ◌<◌, ◌^◌, ◌⊎◌, ◌↔◌, ◌&&◌, not, true, false, [], List, length, IfErr, IfOk, IsErrOf, OnErr, OnOk};
+ghost use Rattle.std.specs.Prelude.{◌≡◌, ◌⊎◌, ◌↔◌, ◌&&◌, not, true, false, [], List, length, IfErr, IfOk, IsErrOf, OnErr, OnOk};
 ghost use Rattle.signal_model.specs.Recipes.{Hosts};
 ghost use Rattle.effect_model.specs.declared.limits.TheConstants.{MOST_WATCHERS};
 ghost use Rattle.effect_model.specs.Acts.{forget};
@@ -25,7 +25,6 @@ impl World {
     ///
     /// `Limit` where as many watchers live as may be, and `NoMemory` where memory ran out; then all is as before.
     pub fn make_watcher(&mut self, tries: bool) -> Result<WatcherId, EffectFault>
-        requires made { self.old.watchers.made + 1 < 2 ^ 128 }
         requires owned { AreOwned self.old }
         ensures made { IfOk result (λ id. (id ≡ self.old.watchers.made) × (self.new.watchers ≡ with_new tries self.old.watchers)) }
         ensures does { (hosts : Hosts) (asked : List HostPlace) → IsSound hosts asked self.old →

@@ -13,8 +13,8 @@ use std::test::Fail;
 // What is to be taken back: a thing by its number, or a value that is logged.
 #[derive(Clone, Copy)]
 enum Back {
-    Node(u128),
-    Effect(u128),
+    Node(u64),
+    Effect(u64),
     Log(i64),
 }
 

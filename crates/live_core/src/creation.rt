@@ -252,7 +252,7 @@ impl Machine {
         ensures memory { IfErr result (λ e. e ≡ fault.NoMemory) }
     {
         let links = signals_of(self.alloc, &self.names, template.names())?;
-        let number = self.templates.len() as u128;
+        let number = self.templates.len() as u64;
         self.templates.push(LinkedTemplate { template, links })?;
         self.names.make(name, Kind::Template, number)?;
         Ok(Vec::new(self.alloc))

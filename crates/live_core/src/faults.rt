@@ -1,5 +1,5 @@
 // Owners, effects and pages are made; want of memory is the only fault.
-ghost use Rattle.std.specs.Prelude.{◌≡◌, ◌<◌, ◌+◌, ◌^◌, true, [], List, IfOk, IfErr, OnOk, length};
+ghost use Rattle.std.specs.Prelude.{◌≡◌, ◌<◌, true, [], List, IfOk, IfErr, OnOk, length};
 ghost use Rattle.signal_model.specs.Recipes.{Hosts};
 ghost use Rattle.effect_model.specs.Commands.{with_new_effect, with_new_owner, with_new_page};
 ghost use Rattle.effect_tables.specs.Scripts.{IsFitting};
@@ -50,7 +50,6 @@ pub(crate) fn make_effect(
 ) -> Result<EffectId, EffectFault>
     requires owned { AreOwned world.old }
     requires open { is_open (living 0 world.old.tables.owners.items) inside ≡ true }
-    requires counted { world.old.tables.effects_made + 1 < 2 ^ 128 }
     requires fitting { IsFitting script }
     ensures id { IfOk result (λ id. id ≡ world.old.tables.effects_made) }
     ensures does { (hosts : Hosts) (asked : List HostPlace) → IsSound hosts asked world.old → OnOk result
@@ -73,7 +72,6 @@ pub(crate) fn make_effect(
 pub(crate) fn make_page(world: &mut World, inside: Option<OwnerId>) -> Result<PageId, EffectFault>
     requires owned { AreOwned world.old }
     requires open { is_open (living 0 world.old.tables.owners.items) inside ≡ true }
-    requires counted { world.old.tables.pages_made + 1 < 2 ^ 128 }
     requires room { length world.old.tables.pages.items < MOST_PAGES }
     ensures id { IfOk result (λ id. id ≡ world.old.tables.pages_made) }
     ensures does { (hosts : Hosts) (asked : List HostPlace) → IsSound hosts asked world.old →

@@ -35,7 +35,7 @@ impl Machine {
         &mut self,
         name: Name,
         number: PageId,
-        template: u128,
+        template: u64,
         page: Page,
     ) -> Result<(), NoMemory>
         requires { meaning_of self.old.names name ≡ None }

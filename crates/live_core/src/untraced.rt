@@ -62,7 +62,7 @@ impl Machine {
         &mut self,
         shelf: &mut Shelf,
         name: Name,
-        number: u128,
+        number: u64,
     ) -> Result<Entry, EffectFault>
         requires can { CanAsk (⟦<Shelf as Lent>⟧.asked shelf.old) self.old (⟦<Shelf as Lent>⟧.counted shelf.old) (2 ^ 125) }
         requires known { number ≡ number_of self.old.names name }

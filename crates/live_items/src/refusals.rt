@@ -355,10 +355,10 @@ fn node_refusal(machine: &Machine, page: &Name, node: u64) -> Option<Refusal>
 }
 
 // Whether the line of a template makes an element; that of none doesn't.
-fn is_tag_in(templates: &[LinkedTemplate], template: u128, line: usize) -> bool
+fn is_tag_in(templates: &[LinkedTemplate], template: u64, line: usize) -> bool
     ensures { result ≡ tag_in (template_in (map template_of templates.now) template) line }
 {
-    if template >= templates.len() as u128 {
+    if template >= templates.len() as u64 {
         return false;
     }
     template_among(templates, template).template.tag_at(line)

@@ -15,7 +15,7 @@ pub struct Labels {
     pub owners: Vec<Name>,
     pub pages: Vec<Name>,
     pub watchers: Vec<Name>,
-    pub effects: IndexMap<u128, Label>,
+    pub effects: IndexMap<u64, Label>,
 }
 
 impl Drop for Labels {

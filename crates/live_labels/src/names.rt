@@ -16,7 +16,7 @@ use sig_base::{EffectId, Name, NameFault, NoMemory, NodeId, WatcherId};
 use std::alloc::Global;
 
 // A number as a place in a list, or the last place of all.
-fn place_of(number: u128) -> usize
+fn place_of(number: u64) -> usize
     ensures { result ≡ min number (2 ^ 64 - 1) }
 {
     usize::try_from(number).unwrap_or(usize::MAX)
@@ -34,7 +34,7 @@ fn nobody(alloc: Global) -> Result<Name, NoMemory>
 }
 
 /// The name of what has a number.
-pub(crate) fn name_at(alloc: Global, names: &[Name], number: u128) -> Result<Name, NoMemory>
+pub(crate) fn name_at(alloc: Global, names: &[Name], number: u64) -> Result<Name, NoMemory>
     ensures { IfOk result (λ n. n ≡ name_at names.now number) }
 {
     match names.get(place_of(number)) {
@@ -89,7 +89,7 @@ fn unmade(alloc: Global) -> Result<Label, NoMemory>
 }
 
 // The label of what a command made.
-fn named_at(alloc: Global, names: &[Name], number: u128) -> Result<Label, NoMemory>
+fn named_at(alloc: Global, names: &[Name], number: u64) -> Result<Label, NoMemory>
     ensures { IfOk result (λ l. l ≡ named_at names.now number) }
 {
     match names.get(place_of(number)) {
@@ -107,7 +107,7 @@ fn named_at(alloc: Global, names: &[Name], number: u128) -> Result<Label, NoMemo
 /// The label of an effect.
 pub(crate) fn label_at(
     alloc: Global,
-    labels: &IndexMap<u128, Label>,
+    labels: &IndexMap<u64, Label>,
     id: EffectId,
 ) -> Result<Label, NoMemory>
     ensures { IfOk result (λ l. l ≡ label_at (get nat_eq labels.now) id) }
@@ -171,7 +171,7 @@ fn child_label(alloc: Global, parent: &Label, number: u64) -> Result<Label, NoMe
 ///
 /// `NoMemory` where memory ran out.
 pub fn label_effect(
-    labels: &mut IndexMap<u128, Label>,
+    labels: &mut IndexMap<u64, Label>,
     id: EffectId,
     label: Label,
 ) -> Result<(), NoMemory>
@@ -184,7 +184,7 @@ pub fn label_effect(
 /// A child gets its label, by that of its parent.
 pub(crate) fn name_child(
     alloc: Global,
-    labels: &mut IndexMap<u128, Label>,
+    labels: &mut IndexMap<u64, Label>,
     child: EffectId,
     parent: EffectId,
     number: u64,
@@ -206,7 +206,7 @@ fn is_named(label: &Label) -> bool
 }
 
 // Whether a command made the effect of a number.
-fn is_made_by_name(labels: &IndexMap<u128, Label>, id: EffectId) -> bool
+fn is_made_by_name(labels: &IndexMap<u64, Label>, id: EffectId) -> bool
     ensures { result ≡ is_named (label_at (get nat_eq labels.now) id) }
 {
     match labels.get(&id.number()) {
@@ -216,7 +216,7 @@ fn is_made_by_name(labels: &IndexMap<u128, Label>, id: EffectId) -> bool
 }
 
 /// The label of an effect goes out, unless a command made it.
-pub(crate) fn unname_child(labels: &mut IndexMap<u128, Label>, id: EffectId)
+pub(crate) fn unname_child(labels: &mut IndexMap<u64, Label>, id: EffectId)
     ensures { get nat_eq labels.new ≡ with_label id (lasting (get nat_eq labels.old id)) (get nat_eq labels.old) }
 {
     if is_made_by_name(labels, id) {
@@ -226,7 +226,7 @@ pub(crate) fn unname_child(labels: &mut IndexMap<u128, Label>, id: EffectId)
 }
 
 /// How many of these effects a command made.
-pub fn named_count(labels: &IndexMap<u128, Label>, effects: &[Effect]) -> usize
+pub fn named_count(labels: &IndexMap<u64, Label>, effects: &[Effect]) -> usize
     ensures { result ≡ length (filter (λ x. is_named (label_at (get nat_eq labels.now) x.number)) (map effect_of effects.now)) }
 {
     let mut count = 0;

@@ -15,7 +15,7 @@ use sig_untrack::{Body, Rewire};
 use std::alloc::Global;
 
 // The thing of a kind and a number.
-fn thing_meant(kind: Kind, number: u128) -> Thing
+fn thing_meant(kind: Kind, number: u64) -> Thing
     ensures { result ≡ thing_meant kind number }
 {
     match kind {

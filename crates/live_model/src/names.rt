@@ -17,7 +17,7 @@ pub enum Kind {
 #[derive(Clone, Copy)]
 pub struct Meaning {
     pub kind: Kind,
-    pub number: u128,
+    pub number: u64,
 }
 
 /// What a name has to be where it is used.

@@ -53,7 +53,7 @@ pub fn lives(world: &World, thing: &Thing) -> bool
 
 /// What of a kind can be disposed, by its number.
 #[inline(always)]
-pub(crate) fn thing_of(kind: Kind, number: u128) -> Option<Thing>
+pub(crate) fn thing_of(kind: Kind, number: u64) -> Option<Thing>
     ensures { option_map thing_of result ≡ plain.thing_of kind number }
 {
     match kind {
@@ -79,7 +79,7 @@ fn has_ended(world: &World, thing: Option<Thing>) -> bool
 
 /// Whether what was made is gone.
 #[inline(always)]
-pub(crate) fn is_gone(world: &World, kind: Kind, number: u128) -> bool
+pub(crate) fn is_gone(world: &World, kind: Kind, number: u64) -> bool
     ensures { (asked : List HostPlace) → result ≡ plain.is_gone (whole_of asked world.now) kind number }
 {
     let thing = thing_of(kind, number);

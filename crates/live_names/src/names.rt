@@ -39,7 +39,7 @@ impl Model for Names {
 }
 
 /// The number of what a name stands for, 0 where it stands for nothing.
-pub fn number_meant(meaning: Option<Meaning>) -> u128
+pub fn number_meant(meaning: Option<Meaning>) -> u64
     ensures { result ≡ option_map_or (λ m. m.number) meaning 0 }
 {
     match meaning {
@@ -103,14 +103,14 @@ impl Names {
     }
 
     /// The number of what a name stands for, 0 for a name that wasn't made.
-    pub fn number_of(&self, name: &Name) -> u128
+    pub fn number_of(&self, name: &Name) -> u64
         ensures { result ≡ number_of self.now name.now }
     {
         number_meant(self.meaning_of(name))
     }
 
     /// Makes a new name, last, for that of this number among those of its kind.
-    pub fn make(&mut self, name: Name, kind: Kind, number: u128) -> Result<(), NoMemory>
+    pub fn make(&mut self, name: Name, kind: Kind, number: u64) -> Result<(), NoMemory>
         requires { meaning_of self.old name ≡ None }
         ensures { OnOk result (self.new ≡ self.old ++ (name, record { kind = kind; number = number }) ∷ []) }
     {

@@ -79,7 +79,7 @@ pub fn mount(
     labels: &Labels,
     journal: &mut Option<Recorder>,
     name: &Name,
-    template: u128,
+    template: u64,
     told: &mut Vec<Entry>,
 ) -> Result<Page, NoMemory>
     requires known { template < length templates.now }
@@ -144,7 +144,7 @@ pub fn scratch(
     templates: &[LinkedTemplate],
     labels: &Labels,
     journal: &mut Option<Recorder>,
-    template: u128,
+    template: u64,
     told: &mut Vec<Entry>,
 ) -> Result<PageBytes, NoMemory>
     requires known { template < length templates.now }

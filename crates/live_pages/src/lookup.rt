@@ -19,7 +19,7 @@ use sig_base::{NoMemory, PageId};
 use std::alloc::Global;
 
 /// The template of a number.
-pub fn template_among(templates: &[LinkedTemplate], template: u128) -> &LinkedTemplate
+pub fn template_among(templates: &[LinkedTemplate], template: u64) -> &LinkedTemplate
     requires { template < length templates.now }
     ensures known { template_of result.now ≡ template_in (map template_of templates.now) template }
     ensures read { AreTemplates templates.now → IsTemplate (lines_of result.now.template) }

@@ -23,7 +23,7 @@ impl Drop for LinkedTemplate {
 pub struct Mounted {
     pub name: Name,
     pub number: PageId,
-    pub template: u128,
+    pub template: u64,
     pub page: Page,
 }
 

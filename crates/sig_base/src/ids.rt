@@ -1,12 +1,25 @@
 // The numbers under which stores give out their things.
-ghost use Rattle.std.specs.Prelude.{◌≡◌};
+ghost use Rattle.std.specs.Prelude.{◌≡◌, ◌+◌, ◌^◌, IfOk, IsErr};
 
+use crate::errors::NoMemory;
 use std::marker::Model;
+
+/// How many numbers were given once one more is, after so many. Numbers never come again, so there is none behind the last one: that is
+/// answered as want of memory, which comes long before.
+pub fn one_given(given: u64) -> Result<u64, NoMemory>
+    ensures ok { IfOk result (λ n. n ≡ given + 1) }
+    ensures last { IsErr result → given + 1 ≡ 2 ^ 64 }
+{
+    if given == u64::MAX {
+        return Err(NoMemory);
+    }
+    Ok(given + 1)
+}
 
 /// The number of a signal.
 #[derive(Clone, Copy, PartialEq, Eq, Hash)]
 pub struct NodeId {
-    number: u128,
+    number: u64,
 }
 
 impl Model for NodeId {
@@ -21,14 +34,14 @@ impl Model for NodeId {
 
 impl NodeId {
     /// The id of this number, for the store that gives it.
-    pub fn of(number: u128) -> NodeId
+    pub fn of(number: u64) -> NodeId
         ensures { result ≡ number }
     {
         NodeId { number }
     }
 
     /// Its number.
-    pub fn number(&self) -> u128
+    pub fn number(&self) -> u64
         ensures { result ≡ self.now }
     {
         self.number
@@ -38,7 +51,7 @@ impl NodeId {
 /// The number of an owner.
 #[derive(Clone, Copy, PartialEq, Eq, Hash)]
 pub struct OwnerId {
-    number: u128,
+    number: u64,
 }
 
 impl Model for OwnerId {
@@ -53,14 +66,14 @@ impl Model for OwnerId {
 
 impl OwnerId {
     /// The id of this number, for the store that gives it.
-    pub fn of(number: u128) -> OwnerId
+    pub fn of(number: u64) -> OwnerId
         ensures { result ≡ number }
     {
         OwnerId { number }
     }
 
     /// Its number.
-    pub fn number(&self) -> u128
+    pub fn number(&self) -> u64
         ensures { result ≡ self.now }
     {
         self.number
@@ -70,7 +83,7 @@ impl OwnerId {
 /// The number of a watcher.
 #[derive(Clone, Copy, PartialEq, Eq)]
 pub struct WatcherId {
-    number: u128,
+    number: u64,
 }
 
 impl Model for WatcherId {
@@ -85,14 +98,14 @@ impl Model for WatcherId {
 
 impl WatcherId {
     /// The id of this number, for the store that gives it.
-    pub fn of(number: u128) -> WatcherId
+    pub fn of(number: u64) -> WatcherId
         ensures { result ≡ number }
     {
         WatcherId { number }
     }
 
     /// Its number.
-    pub fn number(&self) -> u128
+    pub fn number(&self) -> u64
         ensures { result ≡ self.now }
     {
         self.number
@@ -102,7 +115,7 @@ impl WatcherId {
 /// The number of an effect.
 #[derive(Clone, Copy, PartialEq, Eq, Hash)]
 pub struct EffectId {
-    number: u128,
+    number: u64,
 }
 
 impl Model for EffectId {
@@ -117,14 +130,14 @@ impl Model for EffectId {
 
 impl EffectId {
     /// The id of this number, for the store that gives it.
-    pub fn of(number: u128) -> EffectId
+    pub fn of(number: u64) -> EffectId
         ensures { result ≡ number }
     {
         EffectId { number }
     }
 
     /// Its number.
-    pub fn number(&self) -> u128
+    pub fn number(&self) -> u64
         ensures { result ≡ self.now }
     {
         self.number
@@ -134,7 +147,7 @@ impl EffectId {
 /// The number of a page.
 #[derive(Clone, Copy, PartialEq, Eq, Hash)]
 pub struct PageId {
-    number: u128,
+    number: u64,
 }
 
 impl Model for PageId {
@@ -149,14 +162,14 @@ impl Model for PageId {
 
 impl PageId {
     /// The id of this number, for the store that gives it.
-    pub fn of(number: u128) -> PageId
+    pub fn of(number: u64) -> PageId
         ensures { result ≡ number }
     {
         PageId { number }
     }
 
     /// Its number.
-    pub fn number(&self) -> u128
+    pub fn number(&self) -> u64
         ensures { result ≡ self.now }
     {
         self.number
@@ -166,7 +179,7 @@ impl PageId {
 /// The number of a template's place.
 #[derive(Clone, Copy)]
 pub struct PlaceId {
-    number: u128,
+    number: u64,
 }
 
 impl Model for PlaceId {
@@ -181,14 +194,14 @@ impl Model for PlaceId {
 
 impl PlaceId {
     /// The id of this number, for the store that gives it.
-    pub fn of(number: u128) -> PlaceId
+    pub fn of(number: u64) -> PlaceId
         ensures { result ≡ number }
     {
         PlaceId { number }
     }
 
     /// Its number.
-    pub fn number(&self) -> u128
+    pub fn number(&self) -> u64
         ensures { result ≡ self.now }
     {
         self.number

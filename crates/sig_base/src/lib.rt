@@ -1,6 +1,7 @@
 //! Values, names and numbers of things, and the two errors that every layer speaks of.
 #![tactic(auto)]
 
+mod count;
 mod errors;
 mod ids;
 mod limits;
@@ -13,8 +14,9 @@ mod text;
 mod value;
 mod word;
 
+pub use count::Count;
 pub use errors::{Failed, NoMemory};
-pub use ids::{EffectId, NodeId, OwnerId, PageId, PlaceId, WatcherId};
+pub use ids::{EffectId, NodeId, OwnerId, PageId, PlaceId, WatcherId, one_given};
 pub use limits::{
     MOST_FIELDS, MOST_HEIGHT, MOST_LINE, MOST_NAME, MOST_NODES, MOST_PAGES, MOST_ROWS, MOST_SCRIPT,
     MOST_SOURCES, MOST_TAG, MOST_TEMPLATE_LINES, MOST_TEMPLATES, MOST_TEXT,

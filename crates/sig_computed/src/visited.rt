@@ -44,7 +44,7 @@ impl Model for Visited {
 fn flag_of(id: NodeId) -> usize
     ensures { result ≡ flag_of id }
 {
-    (id.number() % FLAGS as u128) as usize
+    (id.number() % FLAGS as u64) as usize
 }
 
 // Whether the flag of a computed is up, as one counts that isn't there.

@@ -7,7 +7,7 @@ ghost use Rattle.sig_nodes.specs.Nodes.{body_at, is_computed_body, memo_body, nu
 ghost use Rattle.sig_graph.specs.Search.{some_marked_at, stop_unmarks_by};
 
 use crate::marks::must_run;
-use sig_base::{NoMemory, NodeId, Outcome};
+use sig_base::{Count, NoMemory, NodeId, Outcome};
 use sig_marks::Marks;
 use sig_nodes::{Computation, Nodes, computation_at, is_cycle, read_at};
 
@@ -39,7 +39,7 @@ fn some_marked(nodes: &Nodes, marks: &Marks, ids: &[NodeId]) -> bool
 // Puts the change number of a signal behind others, in room that is there, none where it is gone, and tells whether a marked computed stands
 // there.
 #[inline(always)]
-fn look_at(numbers: &mut Vec<Option<u128>>, nodes: &Nodes, marks: &Marks, id: NodeId) -> bool
+fn look_at(numbers: &mut Vec<Option<Count>>, nodes: &Nodes, marks: &Marks, id: NodeId) -> bool
     requires { vec_len numbers.old < vec_capacity numbers.old }
     ensures number { numbers.new.items ≡ numbers.old.items ++ number_at nodes.now.items id ∷ [] }
     ensures len { vec_len numbers.new ≡ vec_len numbers.old + 1 }
@@ -61,7 +61,7 @@ fn either(one: bool, other: bool) -> bool
 /// Puts the present change numbers of these in place of what stood in a list, and tells whether a marked computed stands at one of them.
 #[inline(always)]
 pub(crate) fn look_over(
-    numbers: &mut Vec<Option<u128>>,
+    numbers: &mut Vec<Option<Count>>,
     nodes: &Nodes,
     marks: &Marks,
     ids: &[NodeId],

@@ -13,7 +13,7 @@ ghost use Rattle.sig_graph.specs.States.{are_there, is_computing, is_given, no_s
 use crate::errors::NodeFault;
 use crate::search::note_fresh;
 use crate::spares::Spares;
-use sig_base::{MOST_NODES, NoMemory, NodeId, Value};
+use sig_base::{Count, MOST_NODES, NoMemory, NodeId, Value};
 use sig_marks::Marks;
 use sig_nodes::{
     Body, Computation, Node, Nodes, Recipe, host_at, is_computed, is_linkable_at, is_live_at,
@@ -36,7 +36,7 @@ pub struct Graph {
     pub(crate) reached: Reached,
     pub(crate) trail: Trail,
     // where the numbers of a run are put before they are kept
-    pub(crate) room: Vec<Option<u128>>,
+    pub(crate) room: Vec<Option<Count>>,
     pub(crate) spares: Spares,
 }
 
@@ -117,11 +117,7 @@ impl Graph {
         self.marks.add(is_computed(&body))?;
         let id = NodeId::of(self.nodes.made());
         let seat = self.seats.take(id);
-        let node = Node {
-            number: 0,
-            seat,
-            body,
-        };
+        let node = Node::new(seat, body);
         self.nodes.push(node);
         self.worn += 1;
         Ok(id)

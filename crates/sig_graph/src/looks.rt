@@ -31,7 +31,7 @@ impl Graph {
 
     /// How many signals were made so far, gone ones too. Each id that is in use is one of theirs, only computeds keep a run, each
     /// host formula that is asked has few arguments, and each live signal has a seat.
-    pub fn made(&self) -> u128
+    pub fn made(&self) -> u64
         ensures count { result ≡ self.now.given }
         ensures used { AreGiven (is_given self.now) self.now.state.signals self.now.state.memos }
         ensures keepers { OnlyComputedsKeep self.now.state.signals self.now.state.memos }

@@ -172,7 +172,7 @@ fn note_all(worn: u128, trail: &mut Trail, finds: &mut Finds)
 }
 
 /// The same of all these, as each of them is so: a set makes those that it marks newly due, or something below them. It looks at no node.
-pub(crate) fn note_fresh(worn: u128, fresh: &[u128], finds: &mut Finds)
+pub(crate) fn note_fresh(worn: u128, fresh: &[u64], finds: &mut Finds)
     ensures { (xs : List Node) (g : ℕ) → ((m : ℕ) → is_in m fresh.now ≡ true → HasDue xs g m) →
         KeepsFound xs g worn finds.old → KeepsFound xs g worn finds.new }
 {

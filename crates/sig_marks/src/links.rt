@@ -12,7 +12,7 @@ use sig_base::{NoMemory, NodeId};
 use sig_store::Store;
 use std::alloc::Global;
 
-fn unlink_at(sets: &mut Store<Readers>, from: NodeId, reader: u128)
+fn unlink_at(sets: &mut Store<Readers>, from: NodeId, reader: u64)
     ensures { Unlinks sets.old.entries sets.new.entries (from ∷ []) reader }
 {
     let id = from.number();
@@ -23,7 +23,7 @@ fn unlink_at(sets: &mut Store<Readers>, from: NodeId, reader: u128)
     readers.remove(reader);
 }
 
-fn link_at(sets: &mut Store<Readers>, to: NodeId, reader: u128)
+fn link_at(sets: &mut Store<Readers>, to: NodeId, reader: u64)
     requires { HasRoom sets.old.entries reader to }
     ensures on { Links sets.old.entries sets.new.entries (to ∷ []) reader }
     ensures room { (m : ℕ) → HasRoom sets.old.entries reader m → HasRoom sets.new.entries reader m }
@@ -40,7 +40,7 @@ fn reserve_at(
     sets: &mut Store<Readers>,
     alloc: Global,
     to: NodeId,
-    reader: u128,
+    reader: u64,
 ) -> Result<(), NoMemory>
     ensures ok { OnOk result (0 < spare_at sets.new.entries reader to) }
     ensures makes { Makes sets.old.entries sets.new.entries reader }
@@ -54,7 +54,7 @@ fn reserve_at(
 }
 
 // Takes a reader out of the dependants of all these sources.
-fn unlink_all(sets: &mut Store<Readers>, sources: &[NodeId], reader: u128)
+fn unlink_all(sets: &mut Store<Readers>, sources: &[NodeId], reader: u64)
     ensures { Unlinks sets.old.entries sets.new.entries sources.now reader }
 {
     for source in sources {
@@ -63,7 +63,7 @@ fn unlink_all(sets: &mut Store<Readers>, sources: &[NodeId], reader: u128)
 }
 
 // Puts a reader among the dependants of all of these that stand, in room that is there.
-fn link_all(sets: &mut Store<Readers>, reads: &[NodeId], reader: u128)
+fn link_all(sets: &mut Store<Readers>, reads: &[NodeId], reader: u64)
     requires { All (λ n. 0 < spare_at sets.old.entries reader n) reads.now }
     ensures { Links sets.old.entries sets.new.entries reads.now reader }
 {
@@ -77,7 +77,7 @@ fn reserve_all(
     sets: &mut Store<Readers>,
     alloc: Global,
     reads: &[NodeId],
-    reader: u128,
+    reader: u64,
 ) -> Result<(), NoMemory>
     ensures ok { OnOk result (All (λ n. 0 < spare_at sets.new.entries reader n) reads.now) }
     ensures makes { Makes sets.old.entries sets.new.entries reader }
@@ -94,7 +94,7 @@ pub(crate) fn relink(
     alloc: Global,
     sources: &[NodeId],
     reads: &[NodeId],
-    reader: u128,
+    reader: u64,
 ) -> Result<(), NoMemory>
     ensures ok { OnOk result (Relinks (keys_of sets.old.entries) (keys_of sets.new.entries) (stands_of sets.old.entries) sources.now reads.now reader) }
     ensures few { (m d : ℕ) → depends_in sets.new.entries m d ≡ true → (reader ≡ d) ⊎ (depends_in sets.old.entries m d ≡ true) }
@@ -122,7 +122,7 @@ pub(crate) fn reader_at(set: &Readers, place: usize) -> Option<NodeId>
 }
 
 // Takes a signal's set away.
-fn forget_at(sets: &mut Store<Readers>, id: u128)
+fn forget_at(sets: &mut Store<Readers>, id: u64)
     ensures off { (m d : ℕ) → depends_in sets.new.entries m d ≡ (if m == id then false else depends_in sets.old.entries m d) }
     ensures stands { stands_of sets.new.entries ≡ slice_set (stands_of sets.old.entries) id false }
 {
@@ -133,7 +133,7 @@ fn forget_at(sets: &mut Store<Readers>, id: u128)
 }
 
 /// Takes a signal out of the dependants of its sources, and takes its own set away. It takes no memory.
-pub(crate) fn drop_links(sets: &mut Store<Readers>, sources: &[NodeId], id: u128)
+pub(crate) fn drop_links(sets: &mut Store<Readers>, sources: &[NodeId], id: u64)
     ensures after { Drops (keys_of sets.old.entries) (keys_of sets.new.entries) sources.now id }
     ensures stands { stands_of sets.new.entries ≡ slice_set (stands_of sets.old.entries) id false }
 {

@@ -20,7 +20,7 @@ pub struct Marks {
     marked: Store<bool>,
     live: usize,
     // what the last marking marked newly, in its order
-    fresh: Vec<u128>,
+    fresh: Vec<u64>,
 }
 
 impl Drop for Marks {
@@ -63,7 +63,6 @@ impl Marks {
 
     /// A signal more, marked or not, without dependants. Without memory all is as before.
     pub fn add(&mut self, marked: bool) -> Result<(), NoMemory>
-        requires { length self.old.marked + 1 < 2 ^ 128 }
         ensures after { OnOk result (self.new ≡ with_place self.old marked) }
         ensures err { OnErr result (self.new ≡ self.old) }
     {
@@ -132,7 +131,7 @@ impl Marks {
     }
 
     /// What the last marking marked newly.
-    pub fn fresh(&self) -> &[u128]
+    pub fn fresh(&self) -> &[u64]
         ensures { result.now ≡ self.now.fresh }
     {
         &self.fresh

@@ -6,7 +6,7 @@ use sig_store::Store;
 
 /// Whether something stands under a number.
 #[inline(always)]
-pub(crate) fn stands_in<T>(store: &Store<T>, id: u128) -> bool
+pub(crate) fn stands_in<T>(store: &Store<T>, id: u64) -> bool
     ensures { result ≡ is_some (entry store.now.entries id) }
 {
     store.get(id).is_some()

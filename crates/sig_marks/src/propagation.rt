@@ -11,7 +11,7 @@ use sig_store::Store;
 
 /// Whether a signal is marked, as what is gone counts; past the last one none is.
 #[inline(always)]
-pub(crate) fn is_marked_in(marked: &Store<bool>, id: u128) -> bool
+pub(crate) fn is_marked_in(marked: &Store<bool>, id: u64) -> bool
     ensures { result ≡ marked_at (marks_of marked.now.entries) id }
 {
     match marked.get(id) {
@@ -22,7 +22,7 @@ pub(crate) fn is_marked_in(marked: &Store<bool>, id: u128) -> bool
 
 /// Marks a signal, and tells whether it was marked before. It takes no memory.
 #[inline(always)]
-pub(crate) fn mark_one(marked: &mut Store<bool>, id: u128) -> bool
+pub(crate) fn mark_one(marked: &mut Store<bool>, id: u64) -> bool
     requires { id < length marked.old.entries }
     ensures was { result ≡ marked_at (marks_of marked.old.entries) id }
     ensures marked { marks_of marked.new.entries ≡ slice_set (marks_of marked.old.entries) id true }
@@ -36,7 +36,7 @@ pub(crate) fn mark_one(marked: &mut Store<bool>, id: u128) -> bool
 
 /// Takes the mark of a signal that stands. It takes no memory.
 #[inline(always)]
-pub(crate) fn unmark_one(marked: &mut Store<bool>, id: u128)
+pub(crate) fn unmark_one(marked: &mut Store<bool>, id: u64)
     ensures marked { marks_of marked.new.entries ≡
         (if is_some (entry marked.old.entries id) then slice_set (marks_of marked.old.entries) id false else marks_of marked.old.entries) }
     ensures stands { stands_of marked.new.entries ≡ stands_of marked.old.entries }
@@ -45,7 +45,7 @@ pub(crate) fn unmark_one(marked: &mut Store<bool>, id: u128)
 }
 
 /// Takes what is kept of a signal's mark away; it is one less of those that stand, where it did. It takes no memory.
-pub(crate) fn drop_mark(marked: &mut Store<bool>, live: &mut usize, id: u128)
+pub(crate) fn drop_mark(marked: &mut Store<bool>, live: &mut usize, id: u64)
     requires { standing_count (stands_of marked.old.entries) ≡ live.old }
     ensures marked { marks_of marked.new.entries ≡ slice_set (marks_of marked.old.entries) id true }
     ensures stands { stands_of marked.new.entries ≡ slice_set (stands_of marked.old.entries) id false }
@@ -61,7 +61,7 @@ pub(crate) fn drop_mark(marked: &mut Store<bool>, live: &mut usize, id: u128)
 
 // Marks what isn't marked yet, and lists it as marked newly. Marks and list are told apart; the room that was reserved is asked for and
 // given back, so that more may be marked, and what is listed and what is unmarked are as many together as before, which bounds the work.
-fn mark_reader(marked: &mut Store<bool>, fresh: &mut Vec<u128>, reader: u128)
+fn mark_reader(marked: &mut Store<bool>, fresh: &mut Vec<u64>, reader: u64)
     requires within { reader < length marked.old.entries }
     requires room { vec_len fresh.old + unmarked_count (marks_of marked.old.entries) ≤ vec_capacity fresh.old }
     ensures marked { marks_of marked.new.entries ≡ slice_set (marks_of marked.old.entries) reader true }
@@ -81,7 +81,7 @@ fn mark_reader(marked: &mut Store<bool>, fresh: &mut Vec<u128>, reader: u128)
 
 // The same for several. Its clauses are the same too, as what holds after one has to hold for the next.
 #[inline(always)]
-fn mark_each(readers: &[u128], marked: &mut Store<bool>, fresh: &mut Vec<u128>)
+fn mark_each(readers: &[u64], marked: &mut Store<bool>, fresh: &mut Vec<u64>)
     requires within { All (λ d. d < length marked.old.entries) readers.now }
     requires room { vec_len fresh.old + unmarked_count (marks_of marked.old.entries) ≤ vec_capacity fresh.old }
     ensures marked { marks_of marked.new.entries ≡ with_marks readers.now (marks_of marked.old.entries) }
@@ -99,7 +99,7 @@ fn mark_each(readers: &[u128], marked: &mut Store<bool>, fresh: &mut Vec<u128>)
 }
 
 // The dependants of a signal.
-fn dependants_in(sets: &Store<Readers>, id: u128) -> &[u128]
+fn dependants_in(sets: &Store<Readers>, id: u64) -> &[u64]
     ensures { result.now ≡ dependants_at (keys_of sets.now.entries) id }
 {
     match sets.get(id) {
@@ -110,7 +110,7 @@ fn dependants_in(sets: &Store<Readers>, id: u128) -> &[u128]
 
 // The same for the dependants of one signal. It has the same clauses, but asks that all that depends on anything is within the marks.
 #[inline(always)]
-fn mark_dependants(sets: &Store<Readers>, marked: &mut Store<bool>, fresh: &mut Vec<u128>, id: u128)
+fn mark_dependants(sets: &Store<Readers>, marked: &mut Store<bool>, fresh: &mut Vec<u64>, id: u64)
     requires within { (m d : ℕ) → depends_in sets.now.entries m d ≡ true → d < length marked.old.entries }
     requires room { vec_len fresh.old + unmarked_count (marks_of marked.old.entries) ≤ vec_capacity fresh.old }
     ensures marked { marks_of marked.new.entries ≡ with_marks (dependants_at (keys_of sets.now.entries) id) (marks_of marked.old.entries) }
@@ -126,12 +126,7 @@ fn mark_dependants(sets: &Store<Readers>, marked: &mut Store<bool>, fresh: &mut 
 }
 
 /// Marks the direct and indirect dependants of a signal, as far as they come through unmarked ones, and lists those. It takes no memory.
-pub(crate) fn spread(
-    sets: &Store<Readers>,
-    marked: &mut Store<bool>,
-    fresh: &mut Vec<u128>,
-    id: u128,
-)
+pub(crate) fn spread(sets: &Store<Readers>, marked: &mut Store<bool>, fresh: &mut Vec<u64>, id: u64)
     requires within { (m d : ℕ) → depends_in sets.now.entries m d ≡ true → d < length marked.old.entries }
     requires room { standing_count (stands_of marked.old.entries) ≤ vec_capacity fresh.old }
     ensures marked { Spreads (keys_of sets.now.entries) (marks_of marked.old.entries) (marks_of marked.new.entries) id }

@@ -15,7 +15,7 @@ const FIRST_ROOM: usize = 4;
 /// A few readers, each once, in the order in which they came where none has gone.
 #[derive(Drop)]
 pub(crate) struct ReaderList {
-    keys: Vec<u128>,
+    keys: Vec<u64>,
 }
 
 impl Model for ReaderList {
@@ -31,7 +31,7 @@ impl Model for ReaderList {
 }
 
 // Where a reader stands in a list, none if it isn't there.
-fn place_of(keys: &[u128], reader: u128) -> Option<usize>
+fn place_of(keys: &[u64], reader: u64) -> Option<usize>
     ensures within { IfSome result (λ p. p < length keys.now) }
     ensures some { IfSome result (λ p. slice_get keys.now p ≡ Some reader) }
     ensures none { IfNone result (is_in reader keys.now ≡ false) }
@@ -45,7 +45,7 @@ fn place_of(keys: &[u128], reader: u128) -> Option<usize>
 }
 
 // An index of a list, with room for one more.
-fn index_of(alloc: Global, keys: &[u128]) -> Result<Box<IndexSet<u128>>, NoMemory>
+fn index_of(alloc: Global, keys: &[u64]) -> Result<Box<IndexSet<u64>>, NoMemory>
     requires { AreDistinct keys.now }
     ensures { IfOk result (λ s. (s.value.keys ≡ keys.now) × (0 < spare s.value)) }
 {
@@ -60,7 +60,7 @@ fn index_of(alloc: Global, keys: &[u128]) -> Result<Box<IndexSet<u128>>, NoMemor
 
 impl ReaderList {
     /// One reader, with room for more.
-    pub(crate) fn of(alloc: Global, reader: u128) -> Result<ReaderList, NoMemory>
+    pub(crate) fn of(alloc: Global, reader: u64) -> Result<ReaderList, NoMemory>
         ensures { IfOk result (λ f. (f.keys ≡ reader ∷ []) × (0 < f.room)) }
     {
         let mut keys = Vec::with_capacity(alloc, FIRST_ROOM)?;
@@ -70,7 +70,7 @@ impl ReaderList {
 
     /// They, in their order.
     #[inline(always)]
-    pub(crate) fn as_slice(&self) -> &[u128]
+    pub(crate) fn as_slice(&self) -> &[u64]
         ensures keys { result.now ≡ self.now.keys }
         ensures once { AreDistinct self.now.keys }
     {
@@ -85,7 +85,7 @@ impl ReaderList {
     }
 
     /// A reader's end, which takes no memory.
-    pub(crate) fn remove(&mut self, reader: u128)
+    pub(crate) fn remove(&mut self, reader: u64)
         ensures off { (d : ℕ) → is_in d self.new.keys ≡ (if reader == d then false else is_in d self.old.keys) }
         ensures room { self.old.room ≤ self.new.room }
     {
@@ -96,7 +96,7 @@ impl ReaderList {
     }
 
     /// A reader more, in room that is there.
-    pub(crate) fn insert(&mut self, reader: u128)
+    pub(crate) fn insert(&mut self, reader: u64)
         requires { (is_in reader self.old.keys ≡ true) ⊎ (0 < self.old.room) }
         ensures on { (d : ℕ) → is_in d self.new.keys ≡ (if reader == d then true else is_in d self.old.keys) }
     {
@@ -125,7 +125,7 @@ impl ReaderList {
     }
 
     /// The same readers in an index, with room for one more.
-    pub(crate) fn indexed(&self, alloc: Global) -> Result<Box<IndexSet<u128>>, NoMemory>
+    pub(crate) fn indexed(&self, alloc: Global) -> Result<Box<IndexSet<u64>>, NoMemory>
         ensures { IfOk result (λ s. (s.value.keys ≡ self.now.keys) × (0 < spare s.value)) }
     {
         index_of(alloc, self.as_slice())

@@ -20,15 +20,15 @@ pub(crate) enum Readers {
     /// None.
     Nobody,
     /// One.
-    One(u128),
+    One(u64),
     /// A few, once there was room for two.
     Few(ReaderList),
     /// Any number of them, once there was room for more than a few.
-    Many(Box<IndexSet<u128>>),
+    Many(Box<IndexSet<u64>>),
 }
 
 // Room for a reader more in a set.
-fn reserve_one(set: &mut IndexSet<u128>) -> Result<(), NoMemory>
+fn reserve_one(set: &mut IndexSet<u64>) -> Result<(), NoMemory>
     ensures ok { OnOk result (0 < spare set.new) }
     ensures keys { set.new.keys ≡ set.old.keys }
     ensures room { spare set.old ≤ spare set.new }
@@ -38,7 +38,7 @@ fn reserve_one(set: &mut IndexSet<u128>) -> Result<(), NoMemory>
 }
 
 // A reader's end in a set.
-fn unlink_one(set: &mut IndexSet<u128>, reader: u128)
+fn unlink_one(set: &mut IndexSet<u64>, reader: u64)
     ensures off { (d : ℕ) → is_in d set.new.keys ≡ (if reader == d then false else is_in d set.old.keys) }
     ensures room { spare set.old ≤ spare set.new }
 {
@@ -46,7 +46,7 @@ fn unlink_one(set: &mut IndexSet<u128>, reader: u128)
 }
 
 // A reader more in a set, in room that is there.
-fn link_one(set: &mut IndexSet<u128>, reader: u128)
+fn link_one(set: &mut IndexSet<u64>, reader: u64)
     requires { (is_in reader set.old.keys ≡ true) ⊎ (0 < spare set.old) }
     ensures on { (d : ℕ) → is_in d set.new.keys ≡ (if reader == d then true else is_in d set.old.keys) }
 {
@@ -59,7 +59,7 @@ fn link_one(set: &mut IndexSet<u128>, reader: u128)
 impl Readers {
     /// They, in their order.
     #[inline(always)]
-    pub(crate) fn as_slice(&self) -> &[u128]
+    pub(crate) fn as_slice(&self) -> &[u64]
         ensures keys { result.now ≡ keys_held self.now }
         ensures once { AreDistinct (keys_held self.now) }
     {
@@ -72,7 +72,7 @@ impl Readers {
     }
 
     /// A reader's end, which takes no memory.
-    pub(crate) fn remove(&mut self, reader: u128)
+    pub(crate) fn remove(&mut self, reader: u64)
         ensures off { (d : ℕ) → is_in d (keys_held self.new) ≡ (if reader == d then false else is_in d (keys_held self.old)) }
         ensures room { room_for reader self.old ≤ room_for reader self.new }
     {
@@ -89,7 +89,7 @@ impl Readers {
     }
 
     /// A reader more, in room that is there.
-    pub(crate) fn insert(&mut self, reader: u128)
+    pub(crate) fn insert(&mut self, reader: u64)
         requires { (is_in reader (keys_held self.old) ≡ true) ⊎ (0 < room_for reader self.old) }
         ensures on { (d : ℕ) → is_in d (keys_held self.new) ≡ (if reader == d then true else is_in d (keys_held self.old)) }
     {
@@ -102,7 +102,7 @@ impl Readers {
     }
 
     /// Room for a reader, once it is none of them any more. After an `Err` only room was made.
-    pub(crate) fn reserve(&mut self, alloc: Global, reader: u128) -> Result<(), NoMemory>
+    pub(crate) fn reserve(&mut self, alloc: Global, reader: u64) -> Result<(), NoMemory>
         ensures ok { OnOk result (0 < room_for reader self.new) }
         ensures keys { keys_held self.new ≡ keys_held self.old }
         ensures room { room_for reader self.old ≤ room_for reader self.new }

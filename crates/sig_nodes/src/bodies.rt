@@ -11,7 +11,7 @@ ghost use Rattle.sig_nodes.specs.Nodes.{are_live_bodies, asks_host_body, body_at
 use crate::answers::Standing;
 use crate::node::{Body, Computation, Node, Source};
 use crate::nodes::Nodes;
-use sig_base::{Fault, NoMemory, NodeId, Outcome, Value};
+use sig_base::{Count, Fault, NoMemory, NodeId, Outcome, Value};
 
 /// What lives at a place, none past the last place.
 #[inline(always)]
@@ -240,7 +240,7 @@ pub fn sources_at(nodes: &Nodes, id: NodeId) -> &[NodeId]
 
 // The change number of a signal, none where it is gone.
 #[inline(always)]
-fn number_at(nodes: &Nodes, id: NodeId) -> Option<u128>
+fn number_at(nodes: &Nodes, id: NodeId) -> Option<Count>
     ensures { result ≡ number_at nodes.now.items id }
 {
     match nodes.at(id) {
@@ -250,7 +250,7 @@ fn number_at(nodes: &Nodes, id: NodeId) -> Option<u128>
 }
 
 #[inline(always)]
-fn number_of(node: &Node) -> Option<u128>
+fn number_of(node: &Node) -> Option<Count>
     ensures { result ≡ number_body node.now.number node.now.body }
 {
     match node.body {
@@ -261,7 +261,7 @@ fn number_of(node: &Node) -> Option<u128>
 
 /// The change number of a signal, none where it is gone, and whether it is a computed.
 #[inline(always)]
-pub fn read_at(nodes: &Nodes, id: NodeId) -> (Option<u128>, bool)
+pub fn read_at(nodes: &Nodes, id: NodeId) -> (Option<Count>, bool)
     ensures number { result.0 ≡ number_at nodes.now.items id }
     ensures computed { result.1 ≡ is_computed_body (body_at nodes.now.items id) }
 {
@@ -273,12 +273,12 @@ pub fn read_at(nodes: &Nodes, id: NodeId) -> (Option<u128>, bool)
 
 /// Whether two change numbers, none of what is gone, are the same.
 #[inline(always)]
-pub(crate) fn same_number(a: Option<u128>, b: Option<u128>) -> bool
+pub(crate) fn same_number(a: Option<Count>, b: Option<Count>) -> bool
     ensures { result ≡ same_number a b }
 {
     match (a, b) {
         (None, None) => true,
-        (Some(m), Some(n)) => m == n,
+        (Some(m), Some(n)) => m.is(&n),
         _ => false,
     }
 }
@@ -293,14 +293,14 @@ pub fn differs(nodes: &Nodes, source: Source) -> bool
 
 /// Whether a node has another number than the one that was read of it, or is computing.
 #[inline(always)]
-pub(crate) fn node_moved(node: &Node, number: Option<u128>) -> bool
+pub(crate) fn node_moved(node: &Node, number: Option<Count>) -> bool
     ensures { result ≡ (not (same_number (number_body node.now.number node.now.body) number) || is_some (known_body node.now.body)) }
 {
     !same_number(number_of(node), number) || is_computing(&node.body)
 }
 
 // Whether a source has another number than the one that was read, or is computing.
-fn source_moved(nodes: &Nodes, name: NodeId, number: Option<u128>) -> bool
+fn source_moved(nodes: &Nodes, name: NodeId, number: Option<Count>) -> bool
     ensures { result ≡ has_moved_body nodes.now.items (Some (record { name = name; number = number })) }
 {
     match nodes.at(name) {

@@ -24,7 +24,7 @@ ghost use Rattle.sig_formula.specs.Trees.{tree};
 
 use crate::answers::{Asked, Recipe};
 use crate::id_lists::{IdList, Slots};
-use sig_base::{Fault, Known, NoMemory, NodeId, Outcome, Step, Value};
+use sig_base::{Count, Fault, Known, NoMemory, NodeId, Outcome, Step, Value};
 use sig_formula::{Formula, Paused, Told, told_at_once};
 use signal_model::judged;
 use std::alloc::Global;
@@ -35,7 +35,7 @@ use std::mem;
 #[derive(Clone, Copy)]
 pub struct Source {
     pub(crate) name: NodeId,
-    pub(crate) number: Option<u128>,
+    pub(crate) number: Option<Count>,
 }
 
 impl Model for Source {
@@ -55,8 +55,8 @@ pub struct Memo {
     sources: IdList,
     rewired: bool,
     outcome: Outcome,
-    numbers: Vec<Option<u128>>,
-    generation: u128,
+    numbers: Vec<Option<Count>>,
+    generation: Count,
 }
 
 impl Model for Memo {
@@ -81,7 +81,7 @@ impl Memo {
     pub fn new(
         outcome: Outcome,
         sources: IdList,
-        numbers: Vec<Option<u128>>,
+        numbers: Vec<Option<Count>>,
         generation: u128,
     ) -> Memo
         requires { length sources.items ≡ length numbers.items }
@@ -92,7 +92,7 @@ impl Memo {
             rewired: false,
             outcome,
             numbers,
-            generation,
+            generation: Count::of(generation),
         }
     }
 
@@ -135,7 +135,7 @@ impl Memo {
         ensures { result ≡ is_stale_by (at_generation generation) (Some self.now) }
     {
         if is_cycle(&self.outcome) {
-            self.generation != generation
+            !self.generation.is(&Count::of(generation))
         } else {
             self.rewired
         }
@@ -146,9 +146,9 @@ impl Memo {
     // sources, the memo, the number and the list are told apart, and so are the ends with memory and without.
     fn renew(
         &mut self,
-        number: &mut u128,
+        number: &mut Count,
         outcome: &Outcome,
-        numbers: &mut Vec<Option<u128>>,
+        numbers: &mut Vec<Option<Count>>,
         generation: u128,
     ) -> Result<IdList, NoMemory>
         requires numbers { length numbers.old.items ≡ length self.old.sources }
@@ -162,7 +162,7 @@ impl Memo {
         let list = self.sources.copy()?;
         put_outcome(&mut self.outcome, number, outcome)?;
         mem::swap(&mut self.numbers, numbers);
-        self.generation = generation;
+        self.generation = Count::of(generation);
         self.rewired = false;
         Ok(list)
     }
@@ -212,7 +212,7 @@ fn put_int(held: &mut Outcome, outcome: &Outcome) -> bool
 }
 
 // Puts an outcome in place of another one, and raises a number by one, where the two aren't the same. Without memory nothing changes.
-fn put_outcome(held: &mut Outcome, number: &mut u128, outcome: &Outcome) -> Result<(), NoMemory>
+fn put_outcome(held: &mut Outcome, number: &mut Count, outcome: &Outcome) -> Result<(), NoMemory>
     requires { number.old + 1 < 2 ^ 128 }
     ensures held { OnOk result (held.new ≡ outcome.now) }
     ensures number { OnOk result (number.new ≡ number.old + (if same_outcome held.old outcome.now then 0 else 1)) }
@@ -223,11 +223,11 @@ fn put_outcome(held: &mut Outcome, number: &mut u128, outcome: &Outcome) -> Resu
         return Ok(());
     }
     if put_int(held, outcome) {
-        *number += 1;
+        number.raise();
         return Ok(());
     }
     *held = outcome.copy()?;
-    *number += 1;
+    number.raise();
     Ok(())
 }
 
@@ -490,10 +490,10 @@ impl Computation {
     /// memory. What is kept, the number and the list are told apart, and so is what leaves them as they are.
     pub(crate) fn keep_again(
         &mut self,
-        number: &mut u128,
+        number: &mut Count,
         outcome: &Outcome,
         reads: &[NodeId],
-        numbers: &mut Vec<Option<u128>>,
+        numbers: &mut Vec<Option<Count>>,
         generation: u128,
     ) -> Result<Option<IdList>, NoMemory>
         requires numbers { length numbers.old.items ≡ length reads.now }
@@ -544,9 +544,22 @@ pub enum Body {
 /// One signal's node: its change number, its seat, and what lives in it.
 #[derive(Drop)]
 pub struct Node {
-    pub number: u128,
+    pub number: Count,
     pub seat: usize,
     pub body: Body,
+}
+
+impl Node {
+    /// The node of a signal that is made, at a seat, with what lives in it. Nothing has changed it.
+    pub fn new(seat: usize, body: Body) -> Node
+        ensures { result ≡ record { number = 0; seat = seat; body = body } }
+    {
+        Node {
+            number: Count::new(),
+            seat,
+            body,
+        }
+    }
 }
 
 // An evaluation that is held begins anew.

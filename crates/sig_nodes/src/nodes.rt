@@ -1,5 +1,5 @@
 // The nodes of signals by id.
-ghost use Rattle.std.specs.Prelude.{◌≡◌, ◌+◌, ◌<◌, ◌^◌, ◌++◌, ◌∷◌, [], length, true, Some, IfOk, IfSome, IfNone, OnOk, slice_get};
+ghost use Rattle.std.specs.Prelude.{◌≡◌, ◌<◌, ◌++◌, ◌∷◌, [], length, true, Some, IfOk, IfSome, IfNone, OnOk, slice_get};
 ghost use Rattle.std.specs.Borrow.{sem};
 ghost use Rattle.sig_nodes.specs.declared.node.Body.TheVariants as body;
 ghost use Rattle.sig_nodes.specs.Nodes.{body_at, changed_at, gone_node, is_live_body, seat_at};
@@ -51,7 +51,7 @@ impl Nodes {
     }
 
     /// How many signals were made, gone ones too.
-    pub fn made(&self) -> u128
+    pub fn made(&self) -> u64
         ensures { result ≡ length self.now.items }
     {
         self.store.made()
@@ -79,8 +79,7 @@ impl Nodes {
 
     /// Puts the node of the next signal in, in room that is there.
     pub fn push(&mut self, node: Node)
-        requires room { 0 < self.old.room }
-        requires count { length self.old.items + 1 < 2 ^ 128 }
+        requires { 0 < self.old.room }
         ensures { self.new.items ≡ self.old.items ++ node ∷ [] }
     {
         self.store.push(node);

@@ -10,7 +10,7 @@ use crate::answers::{Asked, Recipe};
 use crate::id_lists::IdList;
 use crate::node::{Body, Memo, Node};
 use crate::nodes::Nodes;
-use sig_base::{Known, NoMemory, NodeId, Outcome, Value};
+use sig_base::{Count, Known, NoMemory, NodeId, Outcome, Value};
 use std::alloc::Global;
 use std::mem;
 
@@ -21,7 +21,7 @@ fn set_value(node: &mut Node, value: Value) -> Value
     ensures node { node.new ≡ set_node value node.old }
     ensures before { value_body node.old.body ≡ Some result }
 {
-    node.number += 1;
+    node.number.raise();
     match &mut node.body {
         Body::Cell(held, _) => mem::replace(held, value),
         _ => unreachable!(),
@@ -47,7 +47,7 @@ fn keep_memo(node: &mut Node, memo: Memo)
     match &mut node.body {
         Body::Computed(computation) => {
             if !computation.has_outcome(memo.outcome()) {
-                node.number += 1;
+                node.number.raise();
             }
             computation.keep(memo)
         }
@@ -70,7 +70,7 @@ fn renew_memo(
     node: &mut Node,
     outcome: &Outcome,
     reads: &[NodeId],
-    numbers: &mut Vec<Option<u128>>,
+    numbers: &mut Vec<Option<Count>>,
     generation: u128,
 ) -> Result<Option<IdList>, NoMemory>
     requires numbers { length numbers.old.items ≡ length reads.now }
@@ -100,7 +100,7 @@ pub fn renew_memo_at(
     id: NodeId,
     outcome: &Outcome,
     reads: &[NodeId],
-    numbers: &mut Vec<Option<u128>>,
+    numbers: &mut Vec<Option<Count>>,
     generation: u128,
 ) -> Result<Option<IdList>, NoMemory>
     requires live { is_computed_body (body_at nodes.old.items id) ≡ true }
@@ -123,7 +123,7 @@ fn rewire(node: &mut Node, recipe: Recipe, slots: Vec<NodeId>)
     requires worn { node.old.number + 1 < 2 ^ 128 }
     ensures { node.new ≡ rewired_node (recipe_made (expression_of recipe) slots.items) node.old }
 {
-    node.number += 1;
+    node.number.raise();
     match &mut node.body {
         Body::Computed(computation) => computation.rewire(recipe, slots),
         _ => unreachable!(),

@@ -1,5 +1,5 @@
 // Owners and effects by number, and edits of one of them. Of what ended nothing is kept.
-ghost use Rattle.std.specs.Prelude.{◌≡◌, ◌<◌, ◌+◌, ◌^◌, if◌then◌else◌, true, ◌++◌, ◌∷◌, [], length, filter, not, IfSome, IfNone, OnOk, OnErr};
+ghost use Rattle.std.specs.Prelude.{◌≡◌, ◌+◌, if◌then◌else◌, true, ◌++◌, ◌∷◌, [], length, filter, not, IfSome, IfNone, OnOk, OnErr};
 ghost use Rattle.sig_owner.specs.Removals.{is_held_of, is_leaf_of, sifted_inside, sifted_row};
 ghost use Rattle.sig_owner.specs.Tables as tables;
 ghost use Rattle.sig_owner.specs.Tables.{above_at, all_ended, changed_at, ended_row, emptied_row, is_owner_row, is_row_of, item_of, items_at, items_of, live_at, no_row, owner_count, row_at, row_of, rows_of, thing_at, thing_of, with_holder, with_item};
@@ -191,19 +191,6 @@ fn put_inside(
     }
 }
 
-// Makes room for one holder more. There is none where each number was given.
-fn make_room(holders: &mut Store<Holder>) -> Result<(), NoMemory>
-    ensures room { OnOk result (0 < holders.new.room) }
-    ensures number { OnOk result (length holders.new.entries + 1 < 2 ^ 128) }
-    ensures entries { holders.new.entries ≡ holders.old.entries }
-{
-    if holders.made() == u128::MAX {
-        return Err(NoMemory);
-    }
-    holders.reserve(1)?;
-    Ok(())
-}
-
 /// One holder more, whose number is the next; without memory all is as before.
 pub(crate) fn add_holder(
     alloc: Global,
@@ -215,7 +202,7 @@ pub(crate) fn add_holder(
     ensures ok { OnOk result (rows_of holders.new.entries ≡ with_holder (rows_of holders.old.entries) inside (thing_of thing)) }
     ensures err { OnErr result (rows_of holders.new.entries ≡ rows_of holders.old.entries) }
 {
-    make_room(holders)?;
+    holders.reserve(1)?;
     let id = OwnerId::of(holders.made());
     put_inside(holders, &inside, Made::Held(id))?;
     holders.push(Holder {

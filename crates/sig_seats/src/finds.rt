@@ -2,7 +2,7 @@
 ghost use Rattle.std.specs.Prelude.{◌≡◌, ◌≢◌, ℕ, ◌<◌, ◌≤◌, ◌==◌, ◌&&◌, ◌⊎◌, true, false, length, vec_capacity, IfOk};
 ghost use Rattle.sig_seats.specs.Found.{count_for, found_at, held_at, place_of};
 
-use sig_base::{MOST_NODES, NoMemory, NodeId};
+use sig_base::{Count, MOST_NODES, NoMemory, NodeId};
 use std::alloc::Global;
 use std::marker::Model;
 
@@ -10,7 +10,7 @@ use std::marker::Model;
 #[derive(Clone, Copy)]
 pub struct Found {
     id: NodeId,
-    worn: u128,
+    worn: Count,
 }
 
 /// The count of changes at which a search last found that a signal, or something below it, must run. It says something only where it is
@@ -39,7 +39,18 @@ fn place_of(id: NodeId) -> usize
     ensures place { result ≡ place_of id }
     ensures inside { result < MOST_NODES }
 {
-    (id.number() % MOST_NODES as u128) as usize
+    (id.number() % MOST_NODES as u64) as usize
+}
+
+// The note of a signal at a count of changes.
+#[inline(always)]
+fn found_of(id: NodeId, worn: u128) -> Found
+    ensures { result ≡ record { id = id; worn = worn } }
+{
+    Found {
+        id,
+        worn: Count::of(worn),
+    }
 }
 
 // Whether a note is of a signal, at a count of changes.
@@ -47,7 +58,7 @@ fn place_of(id: NodeId) -> usize
 fn is_of(found: &Found, worn: u128, id: NodeId) -> bool
     ensures { result ≡ (found.now.id == id && found.now.worn == worn) }
 {
-    found.id == id && found.worn == worn
+    found.id == id && found.worn.is(&Count::of(worn))
 }
 
 // Makes a place, and each one before it, where it isn't there yet.
@@ -61,7 +72,7 @@ fn lengthen(at: &mut Vec<Found>, place: usize)
     while at.len() <= place {
         at.push_reserved(Found {
             id: NodeId::of(0),
-            worn: 0,
+            worn: Count::new(),
         });
     }
 }
@@ -107,10 +118,11 @@ impl Finds {
             ⊎ ((place_of n ≡ place_of id) × (found_at self.new n ≡ 0))) }
     {
         let place = place_of(id);
+        let found = found_of(id, worn);
         if place < self.at.len() {
-            self.at[place] = Found { id, worn };
+            self.at[place] = found;
         } else {
-            note_later(&mut self.at, place, Found { id, worn });
+            note_later(&mut self.at, place, found);
         }
     }
 }

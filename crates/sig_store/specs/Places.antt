@@ -1,5 +1,5 @@
 -- How the places of values make what callers see.
-use Rattle.std.specs.Prelude.{◌≡◌, ◌≢◌, ◌⊎◌, ℕ, zero, suc, ◌-◌, ◌<◌, min, Bool, false, if◌then◌else◌, nat_eq, List, [], ◌∷◌, ◌++◌, Option, Some, None}
+use Rattle.std.specs.Prelude.{◌≡◌, ◌≢◌, ◌⊎◌, ℕ, zero, suc, ◌-◌, ◌<◌, ◌^◌, min, Bool, false, if◌then◌else◌, nat_eq, List, [], ◌∷◌, ◌++◌, Option, Some, None}
 use Rattle.std.specs.Option.{option_map}
 use Rattle.indexmap.specs.IndexMap.{IndexMap, spare}
 use Rattle.slab.specs.Slab.{Slab, slab_len}
@@ -57,9 +57,9 @@ module _ {T : Type 0} where
     pub store : IsStore (place_by index look) look made
     pub indexed : IsIndex index look
 
-  -- how many more fit without memory
-  abbrev pub room_of : {S : Type 0} → IndexMap ℕ ℕ S → Slab T → ℕ
-  room_of places held = min (spare places) (held.capacity - slab_len held)
+  -- how many more fit without memory, of as many numbers as are left once so many were given
+  abbrev pub room_of : {S : Type 0} → IndexMap ℕ ℕ S → Slab T → ℕ → ℕ
+  room_of places held made = min (min (spare places) (held.capacity - slab_len held)) (2 ^ 64 - 1 - made)
 
 -- an index once the place p of the number n is noted: it has it, unless the place is the number
 pub record IsNoted (old new : ℕ → Option ℕ) (n p : ℕ) : Type 0 where

@@ -1,5 +1,5 @@
 // Values by number.
-ghost use Rattle.std.specs.Prelude.{◌≡◌, ◌+◌, ◌<◌, ◌≤◌, ◌^◌, ◌++◌, ◌∷◌, [], length, false, IsSome, IfSome, IfNone, IfOk, Some, None, OnOk, if◌then◌else◌, is_some, nat_eq, option_copied, slice_set};
+ghost use Rattle.std.specs.Prelude.{◌≡◌, ◌+◌, ◌<◌, ◌≤◌, ◌++◌, ◌∷◌, [], length, false, IsSome, IfSome, IfNone, IfOk, Some, None, OnOk, if◌then◌else◌, is_some, nat_eq, option_copied, slice_set};
 ghost use Rattle.std.specs.Borrow.{sem};
 ghost use Rattle.indexmap.specs.IndexMap.{get, spare, Updates};
 ghost use Rattle.slab.specs.Slab.{get as held_at};
@@ -19,13 +19,10 @@ const HINTS: usize = 32_768;
 // How many of them are made at once, since few numbers ask for few.
 const HINTS_AT_ONCE: usize = 1024;
 
-// How many places a number can name.
-const PLACES: u128 = 1 << 64;
-
 // A value and its number.
 #[derive(Drop)]
 struct Held<T> {
-    number: u128,
+    number: u64,
     value: T,
 }
 
@@ -34,11 +31,11 @@ struct Held<T> {
 #[derive(Drop)]
 pub struct Store<T> {
     // the place of each number that stands elsewhere than at itself, as none does before a value is taken out
-    places: IndexMap<u128, usize>,
+    places: IndexMap<u64, usize>,
     // the place that was given last to such a number with each remainder, be its value there still or not
     hints: Vec<usize>,
     held: Slab<Held<T>>,
-    made: u128,
+    made: u64,
 }
 
 impl<T> Model for Store<T> {
@@ -55,21 +52,21 @@ impl<T> Model for Store<T> {
 
     ghost view = { λ s. record {
       entries = entries_by (place_by (get nat_eq s.places) (held_at s.held)) (held_at s.held) s.made;
-      room = room_of s.places s.held;
+      room = room_of s.places s.held s.made;
     } };
 
     ghost invariant = { λ s. IsPlaced (get nat_eq s.places) (held_at s.held) s.made };
 }
 
 // The hint that is a number's.
-fn hint_of(number: u128) -> usize
+fn hint_of(number: u64) -> usize
     ensures { result < HINTS }
 {
-    (number % HINTS as u128) as usize
+    (number % HINTS as u64) as usize
 }
 
 // Makes the hint of a number, and those before it, where there is none yet.
-fn fill_hints(hints: &mut Vec<usize>, number: u128) -> Result<(), NoMemory> {
+fn fill_hints(hints: &mut Vec<usize>, number: u64) -> Result<(), NoMemory> {
     let hint = hint_of(number);
     if hint >= hints.len() {
         hints.resize((hint / HINTS_AT_ONCE + 1) * HINTS_AT_ONCE, 0)?;
@@ -78,7 +75,7 @@ fn fill_hints(hints: &mut Vec<usize>, number: u128) -> Result<(), NoMemory> {
 }
 
 // Makes a place the hint of a number, if it has one.
-fn note_hint(hints: &mut [usize], number: u128, place: usize) {
+fn note_hint(hints: &mut [usize], number: u64, place: usize) {
     if let Some(hint) = hints.get_mut(hint_of(number)) {
         *hint = place;
     }
@@ -86,7 +83,7 @@ fn note_hint(hints: &mut [usize], number: u128, place: usize) {
 
 // The value that a place holds, where it is that of a number.
 #[inline(always)]
-fn checked_value<T>(held: &Slab<Held<T>>, place: usize, number: u128) -> Option<&T>
+fn checked_value<T>(held: &Slab<Held<T>>, place: usize, number: u64) -> Option<&T>
     ensures number { IfSome result (λ v. number_there (held_at held.now) place ≡ Some number) }
     ensures value { IfSome result (λ v. value_there (held_at held.now) (Some place) ≡ Some v.now) }
     ensures none { IfNone result (holds_number (held_at held.now place) number ≡ false) }
@@ -101,7 +98,7 @@ fn checked_value<T>(held: &Slab<Held<T>>, place: usize, number: u128) -> Option<
 
 // A place, where it holds the value of a number.
 #[inline(always)]
-fn checked_place<T>(held: &Slab<Held<T>>, place: usize, number: u128) -> Option<usize>
+fn checked_place<T>(held: &Slab<Held<T>>, place: usize, number: u64) -> Option<usize>
     ensures some { IfSome result (λ p. number_there (held_at held.now) p ≡ Some number) }
     ensures place { IfSome result (λ p. p ≡ place) }
     ensures none { IfNone result (holds_number (held_at held.now place) number ≡ false) }
@@ -110,17 +107,17 @@ fn checked_place<T>(held: &Slab<Held<T>>, place: usize, number: u128) -> Option<
     Some(place)
 }
 
-// The place that is a number itself, where there is such a one: as a number is cut short for it, it takes no test.
+// The place that is a number itself.
 #[inline(always)]
-fn home_of(number: u128) -> usize
-    ensures { number < 2 ^ 64 → result ≡ number }
+fn home_of(number: u64) -> usize
+    ensures { result ≡ number }
 {
-    (number % PLACES) as usize
+    number as usize
 }
 
 // The value of a number that is its own place, as each is where nothing was taken out before.
 #[inline(always)]
-fn first_value<T>(held: &Slab<Held<T>>, number: u128) -> Option<&T>
+fn first_value<T>(held: &Slab<Held<T>>, number: u64) -> Option<&T>
     ensures some { IfSome result (λ v. IsValueOf (held_at held.now) number v.now) }
     ensures none { IfNone result (holds_number (held_at held.now number) number ≡ false) }
 {
@@ -135,7 +132,7 @@ fn first_value<T>(held: &Slab<Held<T>>, number: u128) -> Option<&T>
 
 // The place of such a number.
 #[inline(always)]
-fn home_place<T>(held: &Slab<Held<T>>, number: u128) -> Option<usize>
+fn home_place<T>(held: &Slab<Held<T>>, number: u64) -> Option<usize>
     ensures some { IfSome result (λ p. number_there (held_at held.now) p ≡ Some number) }
     ensures none { IfNone result (holds_number (held_at held.now number) number ≡ false) }
 {
@@ -149,22 +146,16 @@ fn home_place<T>(held: &Slab<Held<T>>, number: u128) -> Option<usize>
 }
 
 // The same, which is the number itself.
-fn first_place<T>(held: &Slab<Held<T>>, number: u128) -> Option<usize>
+fn first_place<T>(held: &Slab<Held<T>>, number: u64) -> Option<usize>
     ensures some { IfSome result (λ p. number_there (held_at held.now) p ≡ Some number) }
     ensures place { IfSome result (λ p. p ≡ number) }
     ensures none { IfNone result (holds_number (held_at held.now number) number ≡ false) }
 {
-    match usize::try_from(number) {
-        Ok(place) => checked_place(held, place, number),
-        Err(_) => {
-            let _most = held.capacity();
-            None
-        }
-    }
+    checked_place(held, home_of(number), number)
 }
 
 // The value of a number, where its hint leads to it.
-fn hinted_value<'a, T>(hints: &[usize], held: &'a Slab<Held<T>>, number: u128) -> Option<&'a T>
+fn hinted_value<'a, T>(hints: &[usize], held: &'a Slab<Held<T>>, number: u64) -> Option<&'a T>
     ensures { IfSome result (λ v. IsValueOf (held_at held.now) number v.now) }
 {
     let place = *hints.get(hint_of(number))?;
@@ -172,7 +163,7 @@ fn hinted_value<'a, T>(hints: &[usize], held: &'a Slab<Held<T>>, number: u128) -
 }
 
 // The place that is a number's hint, where it holds the value of that number.
-fn hinted_place<T>(hints: &[usize], held: &Slab<Held<T>>, number: u128) -> Option<usize>
+fn hinted_place<T>(hints: &[usize], held: &Slab<Held<T>>, number: u64) -> Option<usize>
     ensures { IfSome result (λ p. number_there (held_at held.now) p ≡ Some number) }
 {
     let place = *hints.get(hint_of(number))?;
@@ -182,7 +173,7 @@ fn hinted_place<T>(hints: &[usize], held: &Slab<Held<T>>, number: u128) -> Optio
 // Where the value of a number stands, by the index. It is seldom asked, so what looks elsewhere first stays short.
 #[cold]
 #[inline(never)]
-fn indexed_place(places: &IndexMap<u128, usize>, number: u128) -> Option<usize>
+fn indexed_place(places: &IndexMap<u64, usize>, number: u64) -> Option<usize>
     ensures { result ≡ get nat_eq places.now number }
 {
     places.get(&number).copied()
@@ -200,9 +191,9 @@ fn value_in<T>(held: &Slab<Held<T>>, place: usize) -> Option<&T>
 
 // The value of a number, by the index.
 fn indexed_value<'a, T>(
-    places: &IndexMap<u128, usize>,
+    places: &IndexMap<u64, usize>,
     held: &'a Slab<Held<T>>,
-    number: u128,
+    number: u64,
 ) -> Option<&'a T>
     ensures { option_copied result ≡ value_there (held_at held.now) (get nat_eq places.now number) }
 {
@@ -215,10 +206,10 @@ fn indexed_value<'a, T>(
 // The value of a number that isn't its own place. It stands apart, so that the look before it is short enough to stand where it is asked.
 #[inline(never)]
 fn later_value<'a, T>(
-    places: &IndexMap<u128, usize>,
+    places: &IndexMap<u64, usize>,
     hints: &[usize],
     held: &'a Slab<Held<T>>,
-    number: u128,
+    number: u64,
 ) -> Option<&'a T>
     requires own { AreOwn (place_by (get nat_eq places.now) (held_at held.now)) (held_at held.now) }
     requires away { holds_number (held_at held.now number) number ≡ false }
@@ -233,10 +224,10 @@ fn later_value<'a, T>(
 // The place of such a number, apart for the same reason.
 #[inline(never)]
 fn later_place<T>(
-    places: &IndexMap<u128, usize>,
+    places: &IndexMap<u64, usize>,
     hints: &[usize],
     held: &Slab<Held<T>>,
-    number: u128,
+    number: u64,
 ) -> Option<usize>
     requires own { AreOwn (place_by (get nat_eq places.now) (held_at held.now)) (held_at held.now) }
     requires away { holds_number (held_at held.now number) number ≡ false }
@@ -251,10 +242,10 @@ fn later_place<T>(
 // Where the value of a number stands.
 #[inline(always)]
 fn place_of<T>(
-    places: &IndexMap<u128, usize>,
+    places: &IndexMap<u64, usize>,
     hints: &[usize],
     held: &Slab<Held<T>>,
-    number: u128,
+    number: u64,
 ) -> Option<usize>
     requires { AreOwn (place_by (get nat_eq places.now) (held_at held.now)) (held_at held.now) }
     ensures { result ≡ place_by (get nat_eq places.now) (held_at held.now) number }
@@ -268,10 +259,10 @@ fn place_of<T>(
 // Where the value of a number that stands does.
 #[inline(always)]
 fn standing_place<T>(
-    places: &IndexMap<u128, usize>,
+    places: &IndexMap<u64, usize>,
     hints: &[usize],
     held: &Slab<Held<T>>,
-    number: u128,
+    number: u64,
 ) -> usize
     requires own { AreOwn (place_by (get nat_eq places.now) (held_at held.now)) (held_at held.now) }
     requires stands { IsSome (place_by (get nat_eq places.now) (held_at held.now) number) }
@@ -284,7 +275,7 @@ fn standing_place<T>(
 }
 
 // Notes the place of a number, in room that is there.
-fn note_place(places: &mut IndexMap<u128, usize>, number: u128, place: usize)
+fn note_place(places: &mut IndexMap<u64, usize>, number: u64, place: usize)
     requires { 0 < spare places.old }
     ensures noted { Updates nat_eq places.old places.new number (Some place) }
     ensures left { spare places.old ≤ spare places.new + 1 }
@@ -297,19 +288,19 @@ fn note_place(places: &mut IndexMap<u128, usize>, number: u128, place: usize)
 
 // Notes the place of a number that is put in, unless it is the number itself.
 #[inline(always)]
-fn note(places: &mut IndexMap<u128, usize>, hints: &mut [usize], number: u128, place: usize)
+fn note(places: &mut IndexMap<u64, usize>, hints: &mut [usize], number: u64, place: usize)
     requires { 0 < spare places.old }
     ensures noted { IsNoted (get nat_eq places.old) (get nat_eq places.new) number place }
     ensures left { spare places.old ≤ spare places.new + 1 }
 {
-    if place as u128 != number {
+    if place as u64 != number {
         note_place(places, number, place);
         note_hint(hints, number, place);
     }
 }
 
 // Forgets the place of a number, and tells it.
-fn forget_place(places: &mut IndexMap<u128, usize>, number: u128) -> usize
+fn forget_place(places: &mut IndexMap<u64, usize>, number: u64) -> usize
     requires { IsSome (get nat_eq places.old number) }
     ensures place { get nat_eq places.old number ≡ Some result }
     ensures forgotten { Updates nat_eq places.old places.new number None }
@@ -323,7 +314,7 @@ fn forget_place(places: &mut IndexMap<u128, usize>, number: u128) -> usize
 
 // Forgets where the value of a number that stands does, and tells it.
 #[inline(always)]
-fn leave_place<T>(places: &mut IndexMap<u128, usize>, held: &Slab<Held<T>>, number: u128) -> usize
+fn leave_place<T>(places: &mut IndexMap<u64, usize>, held: &Slab<Held<T>>, number: u64) -> usize
     requires { IsSome (place_by (get nat_eq places.old) (held_at held.now) number) }
     ensures place { place_by (get nat_eq places.old) (held_at held.now) number ≡ Some result }
     ensures left { IsLeft (get nat_eq places.old) (get nat_eq places.new) number result }
@@ -367,17 +358,20 @@ impl<T> Store<T> {
     fn ready_hints(&mut self) -> Result<(), NoMemory>
         ensures { self.new ≡ self.old }
     {
-        if self.held.vacant_key() as u128 != self.made {
+        if self.held.vacant_key() as u64 != self.made {
             fill_hints(&mut self.hints, self.made)?;
         }
         Ok(())
     }
 
-    /// Makes room for so many values more, which `push` then takes without memory.
+    /// Makes room for so many values more, which `push` then takes without memory. There is none where so many numbers aren't left.
     pub fn reserve(&mut self, more: usize) -> Result<(), NoMemory>
         ensures room { OnOk result (more ≤ self.new.room) }
         ensures entries { self.new.entries ≡ self.old.entries }
     {
+        if u64::MAX - self.made < more as u64 {
+            return Err(NoMemory);
+        }
         self.places.reserve(more)?;
         self.held.reserve(more)?;
         self.ready_hints()?;
@@ -385,7 +379,7 @@ impl<T> Store<T> {
     }
 
     /// How many numbers were given.
-    pub fn made(&self) -> u128
+    pub fn made(&self) -> u64
         ensures { result ≡ length self.now.entries }
     {
         self.made
@@ -393,7 +387,7 @@ impl<T> Store<T> {
 
     /// The value of a number, none where it was taken out or wasn't given.
     #[inline(always)]
-    pub fn get(&self, number: u128) -> Option<&T>
+    pub fn get(&self, number: u64) -> Option<&T>
         ensures { option_copied result ≡ entry self.now.entries number }
     {
         match first_value(&self.held, number) {
@@ -404,7 +398,7 @@ impl<T> Store<T> {
 
     /// The value of a number that stands, for writing.
     #[inline(always)]
-    pub fn value_mut(&mut self, number: u128) -> &mut T
+    pub fn value_mut(&mut self, number: u64) -> &mut T
         requires { IsSome (entry self.old.entries number) }
         ensures* writes_back { sem 𝓛 (lends_value T.row self.entry number result) }
         ensures value { entry self.old.entries number ≡ Some result.now }
@@ -415,9 +409,8 @@ impl<T> Store<T> {
     }
 
     /// Puts a value in, in room that is there, and gives its number.
-    pub fn push(&mut self, value: T) -> u128
-        requires room { 0 < self.old.room }
-        requires count { length self.old.entries + 1 < 2 ^ 128 }
+    pub fn push(&mut self, value: T) -> u64
+        requires { 0 < self.old.room }
         ensures number { result ≡ length self.old.entries }
         ensures entries { self.new.entries ≡ self.old.entries ++ Some value ∷ [] }
         ensures left { self.old.room ≤ self.new.room + 1 }
@@ -430,7 +423,7 @@ impl<T> Store<T> {
     }
 
     /// Takes the value of a number out.
-    pub fn remove(&mut self, number: u128) -> T
+    pub fn remove(&mut self, number: u64) -> T
         requires { IsSome (entry self.old.entries number) }
         ensures value { entry self.old.entries number ≡ Some result }
         ensures entries { self.new.entries ≡ slice_set self.old.entries number None }
@@ -445,7 +438,7 @@ impl<T> Store<T> {
 impl<T: Drop> Store<T> {
     /// Puts another value under a number where one stands, and gives that one back.
     #[inline(always)]
-    pub fn replace(&mut self, number: u128, value: T) -> Option<T>
+    pub fn replace(&mut self, number: u64, value: T) -> Option<T>
         ensures before { result ≡ entry self.old.entries number }
         ensures entries { self.new.entries ≡
             (if is_some (entry self.old.entries number) then slice_set self.old.entries number (Some value) else self.old.entries) }

@@ -1,5 +1,5 @@
 // All watchers.
-ghost use Rattle.std.specs.Prelude.{◌≡◌, ◌==◌, ℕ, ◌+◌, ◌++◌, vec_len, vec_capacity, ◌<◌, ◌≤◌, ◌^◌, ◌↔◌, ◌⊎◌, ◌&&◌, not, length, map, true, false, IfOk, IfErr, IfSome, IfNone, IsErrOf, OnOk, OnErr};
+ghost use Rattle.std.specs.Prelude.{◌≡◌, ◌==◌, ℕ, ◌+◌, ◌++◌, vec_len, vec_capacity, ◌<◌, ◌≤◌, ◌↔◌, ◌⊎◌, ◌&&◌, not, length, map, true, false, IfOk, IfErr, IfSome, IfNone, IsErrOf, OnOk, OnErr};
 ghost use Rattle.effect_model.specs.Acts.{forget, is_notified, is_notified_by_any, notified_by, notified_by_any, waiting_if};
 ghost use Rattle.effect_model.specs.Commands.{armed};
 ghost use Rattle.sig_watcher.specs.declared.errors.WatchFault.TheVariants as fault;
@@ -13,7 +13,7 @@ use crate::errors::WatchFault;
 use crate::recipients::{Told, is_some_watching, pending_of, tell_all};
 use crate::watcher::{Watcher, is_among};
 use effect_model::MOST_WATCHERS;
-use sig_base::{NoMemory, NodeId, WatcherId};
+use sig_base::{NoMemory, NodeId, WatcherId, one_given};
 use sig_graph::Graph;
 use sig_seats::Reached;
 use std::alloc::Global;
@@ -24,7 +24,7 @@ use std::marker::Model;
 pub struct Watchers {
     alloc: Global,
     watchers: Vec<Watcher>,
-    made: u128,
+    made: u64,
     reached: Reached,
 }
 
@@ -89,7 +89,6 @@ impl Watchers {
     /// Makes a watcher, which has no signals and is waiting; it may try a command when it is notified. Its id is the number of
     /// watchers that were made before. It is refused where as many watchers live as may be; after a refusal all is as before.
     pub fn add(&mut self, tries: bool) -> Result<WatcherId, WatchFault>
-        requires { self.old.made + 1 < 2 ^ 128 }
         ensures id { IfOk result (λ id. id ≡ self.old.made) }
         ensures after { OnOk result (self.new ≡ with_new tries self.old) }
         ensures limit { IsErrOf result fault.Limit ↔ (length self.old.watchers ≡ MOST_WATCHERS) }
@@ -99,9 +98,10 @@ impl Watchers {
         if is_full(&self.watchers) {
             return Err(WatchFault::Limit);
         }
+        let made = one_given(self.made)?;
         let id = WatcherId::of(self.made);
         self.watchers.push(Watcher::new(self.alloc, id, tries))?;
-        self.made += 1;
+        self.made = made;
         Ok(id)
     }
 

@@ -1,5 +1,6 @@
-// A store by number, with ample memory.
+// A store by number, and the counts of numbers, with ample memory.
 
+use sig_base::one_given;
 use sig_store::Store;
 use std::test::Fail;
 
@@ -18,5 +19,12 @@ fn gives_no_number_twice(rt: HostRuntime) -> Result<(), Fail> {
     assert!(rt; store.get(first) == None);
     assert!(rt; store.get(second) == Some(&21));
     assert!(rt; store.get(third) == Some(&30));
+    Ok(())
+}
+
+#[test]
+fn gives_no_number_behind_the_last(rt: HostRuntime) -> Result<(), Fail> {
+    assert!(rt; one_given(3)? == 4);
+    assert!(rt; one_given(u64::MAX).is_err());
     Ok(())
 }

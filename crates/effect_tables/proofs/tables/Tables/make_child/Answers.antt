@@ -1,5 +1,5 @@
 use Rattle.std.proofs.Common.{◌≡◌, ◌++◌, ◌∷◌, [], refl, sym, subst, ◌∙◌}
-use Rattle.std.specs.Prelude.{◌+◌, None, Some}
+use Rattle.std.specs.Prelude.{None, Some}
 use Rattle.std.specs.Rc.{rc_value}
 use Rattle.effect_tables.specs.declared.tables.Tables.{Tables}
 use Rattle.effect_tables.specs.declared.thing.Thing.TheVariants as a
@@ -20,7 +20,7 @@ returns-clause-makes c =
       owners = c.args.self.now.owners;
       effects = c.push.new.self;
       pages = c.args.self.now.pages;
-      effects_made = c.args.self.now.effects_made + 1;
+      effects_made = c.in_ok-made.made;
       pages_made = c.args.self.now.pages_made;
     } in
     let e = c.in_ok-effect.ensures in
@@ -33,7 +33,7 @@ returns-clause-makes c =
       owners = refl;
       pages = refl;
       fits = subst IsFitting (sym e.script) c.requires.fits;
-      effects_made = refl;
+      effects_made = c.in_ok-made.ensures.ok;
       pages_made = refl;
     })
     (subst (λ k. effect_of c.in_ok-effect.effect ≡ record { number = k; body = b; kept = None }) c.of-id.ensures e.seen) c.requires.stands.thing c.requires.holds

@@ -1,5 +1,4 @@
 use Rattle.std.proofs.Common.{refl}
-use Rattle.std.specs.Prelude.{◌+◌}
 use Rattle.effect_tables.specs.declared.tables.Tables.{Tables}
 use Rattle.effect_tables.proofs.Tabled.{page_makes}
 use Rattle.effect_tables.proofs.tables.Tables.make_page.Goals as goal
@@ -13,7 +12,7 @@ returns-clause-makes c =
       effects = c.args.self.now.effects;
       pages = c.push.new.self;
       effects_made = c.args.self.now.effects_made;
-      pages_made = c.args.self.now.pages_made + 1;
+      pages_made = c.in_ok-made.made;
     } in
     page_makes c.args.self.now t c.args.inside c.in_ok-outer.outer c.of-id.result (record {
       adopts = c.in_ok-adopt_in.ensures.adopts;
@@ -23,6 +22,6 @@ returns-clause-makes c =
       owners = refl;
       effects = refl;
       effects_made = refl;
-      pages_made = refl;
+      pages_made = c.in_ok-made.ensures.ok;
     })
     c.in_ok-outer.ensures.inside c.requires.holds

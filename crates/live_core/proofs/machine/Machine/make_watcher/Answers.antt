@@ -10,13 +10,6 @@ use Rattle.live_core.proofs.Creations.{steps_named}
 use Rattle.live_core.proofs.Watchers.{leaves_watcher}
 use Rattle.live_core.proofs.machine.Machine.make_watcher.Goals as goal
 
-pub make_watcher-requires-clause-made : goal.make_watcher-requires-clause-made
-make_watcher-requires-clause-made c =
-    let a = c.requires.ready.watchers in
-    let b = c.args.self.now.labels.watchers.ok.0 in
-    let d = c.args.self.now.labels.watchers.small in
-    omega (arith, a, b, d)
-
 pub returns-clause-steps : goal.returns-clause-steps
 returns-clause-steps c = λ hosts slacks asked sound.
     let m = c.args.self.now in

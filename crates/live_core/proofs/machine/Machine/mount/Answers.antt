@@ -34,14 +34,6 @@ make_page-requires-clause-room g c =
     subst (λ t. length t.pages.items < MOST_PAGES) (sym c.in_ok-page.ensures.settled.stays.tables)
     (room_below MOST_PAGES (length c.args.self.now.world.tables.pages.items) limit.Pages c.requires.room)
 
-pub make_page-requires-clause-counted : goal.make_page-requires-clause-counted
-make_page-requires-clause-counted g c =
-    let a = c.requires.can.ready.paged in
-    let b = c.args.self.now.labels.pages.ok.0 in
-    let d = c.args.self.now.labels.pages.small in
-    let e = ap (λ t. t.pages_made) c.in_ok-page.ensures.settled.stays.tables in
-    omega (arith, a, b, d, e)
-
 pub add_page-requires : goal.add_page-requires
 add_page-requires g c =
     let m = c.args.self.now in

@@ -14,26 +14,10 @@ use Rattle.sig_graph.proofs.StateEdits.{new_state}
 use Rattle.sig_graph.proofs.Consistency.{given_below, in_all, makes, new_holds}
 use Rattle.sig_graph.proofs.graph.Graph.add.Goals as goal
 
-pub push-requires-clause-count : goal.push-requires-clause-count
-push-requires-clause-count c =
-    let kept = ap (λ (ys : List Node). length ys) c.reserve.ensures.items in
-    let made = c.self.invariant.fields.made in
-    let wears = ap (λ (s : Seen). s.state.worn) c.self.view_is in
-    let worn = c.requires.worn in
-    omega (arith, kept, made, wears, worn)
-
-pub add-requires : goal.add-requires
-add-requires c =
-    let count = c.self.invariant.marks.flags in
-    let made = c.self.invariant.fields.made in
-    let worn = ap (λ (s : Seen). s.state.worn) c.self.view_is in
-    let room = c.requires.worn in
-    omega (arith, count, made, worn, room)
-
 pub invariant_of-self-2 : goal.invariant_of-self-2
 invariant_of-self-2 c =
     let xs = c.self.inside.nodes.items in
-    let items = c.push.ensures ∙ ap (λ (ys : List Node). ys ++ new_node c.take-seat.result c.args.body ∷ []) c.reserve.ensures.items in
+    let items = c.push.ensures ∙ ap (λ (n : Node). c.reserve.new.self.items ++ n ∷ []) c.new-node.ensures ∙ ap (λ (ys : List Node). ys ++ new_node c.take-seat.result c.args.body ∷ []) c.reserve.ensures.items in
     let id : c.of-id.result ≡ length xs = c.of-id.ensures ∙ c.made.ensures ∙ ap (λ (ys : List Node). length ys) c.reserve.ensures.items in
     let below = given_below c.args.self.now (state_of xs c.self.inside.generation c.self.inside.looked c.self.inside.worn) c.self.inside.seats.holders (length xs) (slots_body c.args.body) c.self.view_is c.requires.given in
     let some = c.free.ensures in
@@ -58,7 +42,7 @@ returns-clause-after c =
     let g = c.self.inside.generation in
     let l = c.self.inside.looked in
     let w = c.self.inside.worn in
-    let items = c.push.ensures ∙ ap (λ (zs : List Node). zs ++ new_node c.take-seat.result c.args.body ∷ []) c.reserve.ensures.items in
+    let items = c.push.ensures ∙ ap (λ (n : Node). c.reserve.new.self.items ++ n ∷ []) c.new-node.ensures ∙ ap (λ (zs : List Node). zs ++ new_node c.take-seat.result c.args.body ∷ []) c.reserve.ensures.items in
     let id : c.of-id.result ≡ length xs = c.of-id.ensures ∙ c.made.ensures ∙ ap (λ (ys : List Node). length ys) c.reserve.ensures.items in
     let len = ap length items ∙ length-append xs (new_node c.take-seat.result c.args.body ∷ []) in
     makes c.args.self.now (state_of ys g l (w + 1)) (with_new c.args.self.now.state c.of-id.result c.args.body) xs c.self.inside.seats c.take-seat.new.self.holders g l w (length ys) c.of-id.result c.self.view_is id len

@@ -13,7 +13,8 @@ invariant_of-self-2 c =
 
 pub returns-clause-memo : goal.returns-clause-memo
 returns-clause-memo c =
-    ap (λ o. memo_made o (paired c.self.inside.sources.items c.swap.new.x.items) c.args.generation) c.in_ok-put_outcome.ensures.held
+    ap (λ g. memo_made c.put_outcome.new.held (paired c.self.inside.sources.items c.swap.new.x.items) g) c.of-self-inside.ensures
+    ∙ ap (λ o. memo_made o (paired c.self.inside.sources.items c.swap.new.x.items) c.args.generation) c.in_ok-put_outcome.ensures.held
     ∙ ap (λ v. memo_made c.args.outcome.now (paired c.self.inside.sources.items v.items) c.args.generation) c.swap.ensures.x_after
     ∙ ap (λ (ns : List ℕ). memo_made c.args.outcome.now (paired ns c.args.numbers.now.items) c.args.generation)
     (sym (names_paired c.self.inside.sources.items c.self.inside.numbers.items c.self.invariant) ∙ ap (λ (m : Memo). source_names m.sources) c.self.view_is)

@@ -7,12 +7,6 @@ use Rattle.sig_store.specs.Places.{place_by, value_there}
 use Rattle.sig_store.proofs.Edits.{entries-length, added, pushed, stays_placed, sole, Moves}
 use Rattle.sig_store.proofs.store.Store.push.Goals as goal
 
-pub overflow_add-self : goal.overflow_add-self
-overflow_add-self g c =
-    let count : length c.args.self.now.entries ≡ c.self.inside.made = rw (← c.self.view_is) (entries-length _ _ _) in
-    let below = rw count at c.requires.count in
-    omega arith
-
 pub invariant_of-self : goal.invariant_of-self
 invariant_of-self g c =
     let index = get nat_eq c.self.inside.places in

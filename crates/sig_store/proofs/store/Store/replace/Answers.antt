@@ -1,4 +1,4 @@
-use Rattle.std.proofs.Common.{◌-◌, ap, sym, ◌∙◌, nat_eq, Some, is_some, if◌then◌else◌, min, arith}
+use Rattle.std.proofs.Common.{◌^◌, ◌-◌, ap, sym, ◌∙◌, nat_eq, Some, is_some, if◌then◌else◌, min, arith}
 use Rattle.std.specs.Prelude.{slice_set}
 use Rattle.std.specs.Option.{option_map}
 use Rattle.indexmap.specs.IndexMap.{get, spare}
@@ -71,7 +71,7 @@ returns-in-Some-clause-left g c =
     let at = place_by index look in
     let now : Held g.row.T.Denot = record { number = c.index_mut.result.now.number; value = c.replace.new.dest } in
     let present = held-there at look c.self.inside.made c.args.number c.in-Some.place c.self.invariant.store (sym c.in-Some.ensures) in
-    ap (λ k. min (spare c.self.inside.places) (c.self.inside.held.capacity - k)) (count-kept c.self.inside.held.slots c.in-Some.place now present)
+    ap (λ k. min (min (spare c.self.inside.places) (c.self.inside.held.capacity - k)) (2 ^ 64 - 1 - c.self.inside.made)) (count-kept c.self.inside.held.slots c.in-Some.place now present)
     ∙ ap (λ (s : Stored g.row.T.Denot). s.room) c.self.view_is
 
 pub returns-in-None-clause-before : goal.returns-in-None-clause-before

@@ -1,4 +1,4 @@
-use Rattle.std.proofs.Common.{ap, subst, ◌∙◌, refl, nat_eq, IsSome, Some, ◌-◌, min, arith}
+use Rattle.std.proofs.Common.{◌^◌, ap, subst, ◌∙◌, refl, nat_eq, IsSome, Some, ◌-◌, min, arith}
 use Rattle.indexmap.specs.IndexMap.{get, spare}
 use Rattle.slab.specs.Slab.{get as held_at, with_value}
 use Rattle.slab.proofs.SlabLemmas.{Updates-with_value}
@@ -60,7 +60,7 @@ returns g c =
             rw (← c.self.view_is) (alike _ _ _ _
             (edited at (place_by index after) look after n p made (Some w) moves.edit (c.self.invariant.store.below n p here)
             (ap (value_there after) moves.placed ∙ ap (option_map (λ h. h.value)) put.changed))
-            (ap (λ k. min (spare c.self.inside.places) (c.self.inside.held.capacity - k)) (count-kept c.self.inside.held.slots p now present))),
+            (ap (λ k. min (min (spare c.self.inside.places) (c.self.inside.held.capacity - k)) (2 ^ 64 - 1 - c.self.inside.made)) (count-kept c.self.inside.held.slots p now present))),
       ),
       record {
         writes_back = tt;
