@@ -219,6 +219,17 @@ is_traced _ = false
 abbrev pub AreTraced : List Entry → Type 0
 AreTraced es = AllByRecursion (λ e. is_traced e ≡ true) es
 
+-- the first entries are the second ones, but for some that are left out and that are printed only where a trace is asked for
+pub data AreLeft : List Entry → List Entry → Type 0 where
+  nothing_told : AreLeft [] []
+  entry_told : {es all : List Entry} (e : Entry) → AreLeft es all → AreLeft (e ∷ es) (e ∷ all)
+  entry_left_out : {es all : List Entry} (e : Entry) → is_traced e ≡ true → AreLeft es all → AreLeft es (e ∷ all)
+
+-- All these are told by the first entries: where a trace is asked for each of them, and where none is all but some that are printed only there.
+pub record AreToldFor (traced : Bool) (es all : List Entry) : Type 0 where
+  pub left : AreLeft es all
+  pub whole : traced ≡ true → es ≡ all
+
 -- what is printed of an entry, with a trace or without
 abbrev pub printed : Bool → Entry → List ℕ
 printed trace e = if is_traced e && not trace then [] else line_of_entry e

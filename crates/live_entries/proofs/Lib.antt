@@ -1,0 +1,2 @@
+mod LeftOut
+pub mod Shared
