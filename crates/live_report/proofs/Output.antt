@@ -1,5 +1,5 @@
 -- What reports print yet, when items and what they tell are taken in.
-use Rattle.std.proofs.Common.{◌≡◌, ◌&&◌, ℕ, Bool, true, false, not, cond, List, [], ◌∷◌, ◌++◌, flat_map, sym, ap, ◌∙◌, append_assoc, append-nil, refl}
+use Rattle.std.proofs.Common.{◌≡◌, ℕ, Bool, true, false, not, List, [], ◌∷◌, ◌++◌, flat_map, sym, ap, ◌∙◌, append_assoc, append-nil, refl}
 use Rattle.std.proofs.lemmas.List.Concat.{flat_map-append}
 use Rattle.bench_workload.specs.Summary.{summary_text}
 use Rattle.bench_workload.specs.declared.summary.Counts.{Counts}
@@ -7,7 +7,8 @@ use Rattle.live_cmd.specs.declared.command.Command.{Command}
 use Rattle.live_cmd.specs.declared.command.Item.{Item}
 use Rattle.live_cmd.specs.declared.command.Item.TheVariants as item
 use Rattle.live_entries.specs.declared.entry.Entry.{Entry}
-use Rattle.live_entries.specs.Printed.{line_of_entry, printed, AreTraced}
+use Rattle.live_entries.specs.Printed.{printed, AreLeft}
+use Rattle.live_entries.proofs.Shared.{left_prints}
 use Rattle.live_words.specs.declared.jobs.ScriptJob.TheVariants as job
 use Rattle.wire_model.specs.Notes.{Note, frame, frames}
 use Rattle.wire_model.specs.Wired.{Wires, notes_of, wired_from, wires_after}
@@ -66,15 +67,11 @@ lines_entries trace old new told e is es =
     ∙ ap (λ t. old ++ t) (sym (flat_map-append (printed trace) told es))
 
 -- nothing is printed of what only a trace prints
-untraced : (front es : List Entry) → AreTraced front → flat_map (printed false) (front ++ es) ≡ flat_map (printed false) es
-untraced [] es h = refl
-untraced (e ∷ front) es h =
-    ap (λ (b : Bool). cond (b && not false) [] (line_of_entry e) ++ flat_map (printed false) (front ++ es)) h.0 ∙ untraced front es h.1
-
-pub lines_untraced : (trace : Bool) → not trace ≡ true → (is : List Item) (front es : List Entry) → AreTraced front → still (report.Lines trace) is (front ++ es) ≡ still (report.Lines trace) is es
+pub lines_untraced : (trace : Bool) → not trace ≡ true → (is : List Item) (given all : List Entry) → AreLeft given all →
+    still (report.Lines trace) is given ≡ still (report.Lines trace) is all
 unfolding still
-lines_untraced true e is front es h = absurd cc
-lines_untraced false e is front es h = untraced front es h
+lines_untraced true e is given all h = absurd cc
+lines_untraced false e is given all h = left_prints h
 
 -- lines are printed of nothing but what items tell
 pub lines_items : (trace : Bool) (i : Item) (is : List Item) (es : List Entry) → still (report.Lines trace) (i ∷ is) es ≡ still (report.Lines trace) is es

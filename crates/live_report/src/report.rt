@@ -5,7 +5,7 @@ ghost use Rattle.live_cmd.specs.declared.command.Command.{Command};
 ghost use Rattle.live_cmd.specs.declared.command.Item.{Item as AnItem};
 ghost use Rattle.live_cmd.specs.declared.command.Item.TheVariants as item;
 ghost use Rattle.live_entries.specs.declared.entry.Entry.{Entry as AnEntry};
-ghost use Rattle.live_entries.specs.Printed.{printed, AreTraced, IsSizedEntry};
+ghost use Rattle.live_entries.specs.Printed.{printed, AreLeft, IsSizedEntry};
 ghost use Rattle.live_report.specs.Reports.{counted, output_of, still};
 
 use crate::counters::{is_command, no_counts, turn_page, with_command, with_entries};
@@ -82,10 +82,10 @@ impl Report {
         }
     }
 
-    /// Whether it leaves out what is told of a trace. Then it takes in nothing of an item but what that tells.
+    /// Whether it leaves out what is told of a trace, wherever that stands. Then it takes in nothing of an item but what that tells.
     pub fn is_untraced(&self) -> bool
         ensures items { result ≡ true → (i : AnItem) (is : List AnItem) (es : List AnEntry) → still self.now (i ∷ is) es ≡ still self.now is es }
-        ensures runs { result ≡ true → (is : List AnItem) (runs es : List AnEntry) → AreTraced runs → still self.now is (runs ++ es) ≡ still self.now is es }
+        ensures runs { result ≡ true → (is : List AnItem) (given all : List AnEntry) → AreLeft given all → still self.now is given ≡ still self.now is all }
     {
         match self {
             Report::Lines { trace } => !*trace,
