@@ -1,14 +1,17 @@
 -- What is told of events is told of what the plain world tells.
-use Rattle.std.proofs.Common.{◌≡◌, true, List, [], ◌∷◌, ◌++◌, refl, sym, ap, ◌∙◌}
+use Rattle.std.proofs.Common.{◌≡◌, Bool, true, false, cond, List, [], ◌∷◌, ◌++◌, refl, sym, ap, ◌∙◌, append-nil}
 use Rattle.effect_model.specs.Worlds as told
 use Rattle.sig_effect.specs.declared.events.Event.{Event}
 use Rattle.sig_effect.specs.declared.events.Event.TheVariants as event
 use Rattle.sig_effect.specs.Events.{AreTold, IsTold}
+use Rattle.sig_computed.specs.Notes.{note_of}
 use Rattle.live_entries.specs.declared.entry.Entry.{Entry}
+use Rattle.live_entries.specs.Printed.{is_traced, AreToldFor, entry_left_out, nothing_told}
+use Rattle.live_entries.proofs.Shared.{told_all, told_both}
 use Rattle.sig_base.specs.Words.{is_name, is_reserved}
 use Rattle.live_model.specs.Labels.{Labels, labels_after, nobody, relabelled}
 use Rattle.live_model.specs.Machine.{entries_of, event_entries}
-use Rattle.live_labels.specs.Entries.{entries_told, note_entry, renamed}
+use Rattle.live_labels.specs.Entries.{entries_for, entries_told, is_wanted, note_entry, renamed, told_for}
 
 -- ---- entries
 
@@ -71,6 +74,39 @@ all_rename l [] [] h = refl
 all_rename l (e ∷ es) (t ∷ ts) h = ap (renamed_by es) (one_renames l e t h.0) ∙ all_rename (relabelled t l) es ts h.1
 all_rename l [] (t ∷ ts) h = absurd h
 all_rename l (e ∷ es) [] h = absurd h
+
+-- ---- with a trace or without
+
+-- without one what only a trace prints isn't told
+traced_for : (traced : Bool) (x : Entry) → is_traced x ≡ true → AreToldFor traced (cond traced (x ∷ []) []) (x ∷ [])
+traced_for true x t = told_all true (x ∷ [])
+traced_for false x t = record { left = entry_left_out x t nothing_told; whole = λ e. absurd cc }
+
+one_for : (traced : Bool) (l : Labels) (e : Event) → AreToldFor traced (entries_for traced l e) (entries_told l e)
+one_for traced l (event.Run n) = traced_for traced (note_entry l.signals (note_of n)) refl
+one_for traced l (event.Body e reads) = traced_for traced _ refl
+one_for traced l e = told_all traced (entries_told l e)
+
+pub all_for : (traced : Bool) (l : Labels) (es : List Event) → AreToldFor traced (told_for traced l es) (told_by l es)
+all_for traced l [] = told_all traced []
+all_for traced l (e ∷ es) = told_both traced (one_for traced l e) (all_for traced (renamed e l) es)
+
+-- with one all is told
+pub all_traced : (l : Labels) (es : List Event) (ts : List told.Event) → AreTold es ts → told_for true l es ≡ entries_of l ts
+all_traced l es ts h = (all_for true l es).whole refl ∙ all_told l es ts h
+
+-- of an event that isn't to be told nothing is, and nothing is called otherwise from then on
+pub unwanted : (traced : Bool) (l : Labels) (e : Event) (es : List Entry) → is_wanted traced e ≡ false → es ≡ es ++ entries_for traced l e
+unwanted traced l e es h = sym (ap (λ (b : Bool). es ++ cond b (entries_told l e) []) h ∙ append-nil es)
+
+pub unwanted_same : (traced : Bool) (l : Labels) (e : Event) → is_wanted traced e ≡ false → l ≡ renamed e l
+unwanted_same traced l (event.Run n) h = refl
+unwanted_same traced l (event.Body e reads) h = refl
+unwanted_same traced l e h = absurd cc
+
+-- of one that is to be told all is
+pub wanted : (traced : Bool) (l : Labels) (e : Event) (es : List Entry) → is_wanted traced e ≡ true → es ++ entries_told l e ≡ es ++ entries_for traced l e
+wanted traced l e es h = sym (ap (λ (b : Bool). es ++ cond b (entries_told l e) []) h)
 
 -- ---- what was never made
 

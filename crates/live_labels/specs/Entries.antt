@@ -1,5 +1,5 @@
 -- What is told of the events of a world, and what is called otherwise from then on.
-use Rattle.std.specs.Prelude.{List, ℕ, [], ◌∷◌, map}
+use Rattle.std.specs.Prelude.{List, ℕ, Bool, true, [], ◌∷◌, ◌++◌, map, if◌then◌else◌}
 use Rattle.effect_model.specs.Worlds.{gone, made_child}
 use Rattle.effect_tables.specs.Bodies.{thing_of}
 use Rattle.sig_computed.specs.Notes.{Note, note_of}
@@ -36,3 +36,18 @@ abbrev pub renamed : Event → Labels → Labels
 renamed (event.Made child parent k) labels = relabelled (made_child child parent k) labels
 renamed (event.Gone t) labels = relabelled (gone (thing_of t)) labels
 renamed _ labels = labels
+
+-- whether an event is to be told, with a trace or without: that a computed ran and that a body was evaluated is told only in a trace
+abbrev pub is_wanted : Bool → Event → Bool
+is_wanted traced (event.Run n) = traced
+is_wanted traced (event.Body e reads) = traced
+is_wanted traced _ = true
+
+-- what is told of an event, with a trace or without
+abbrev pub entries_for : Bool → Labels → Event → List Entry
+entries_for traced labels e = if is_wanted traced e then entries_told labels e else []
+
+-- what is told of events so, each by the labels of its moment
+abbrev pub told_for : Bool → Labels → List Event → List Entry
+told_for traced labels [] = []
+told_for traced labels (e ∷ es) = entries_for traced labels e ++ told_for traced (renamed e labels) es

@@ -11,4 +11,4 @@ pub use labels::Labels;
 pub use names::{label_effect, named_count, names_of_signals};
 pub use notes::note_runs;
 pub use reasons::tell_why;
-pub use report::{append, put_entry, tell_all, tell_runs};
+pub use report::{append, put_entry, tell_all, tell_for, tell_runs};

@@ -12,7 +12,7 @@ ghost use Rattle.live_why.specs.Views as noted;
 ghost use Rattle.live_model.specs.Journals.{noting};
 ghost use Rattle.live_model.specs.Labels.{label_at, label_of, labels_after, name_at, relabelled};
 ghost use Rattle.live_model.specs.Machine.{entries_of};
-ghost use Rattle.live_labels.specs.Entries.{entries_told, note_entry, renamed};
+ghost use Rattle.live_labels.specs.Entries.{entries_for, entries_told, is_wanted, note_entry, renamed, told_for};
 ghost use Rattle.live_labels.specs.Views.{labels_of, KeepsNames};
 
 use crate::labels::Labels;
@@ -320,18 +320,81 @@ fn tell_one(told: &mut Vec<Entry>, labels: &mut Labels, event: &Event) -> Result
     }
 }
 
+// Whether an event is to be told, where a trace is asked for or not.
+fn is_wanted(event: &Event, traced: bool) -> bool
+    ensures { result ≡ is_wanted traced event.now }
+{
+    match event {
+        Event::Run(_) => traced,
+        Event::Body(_, _) => traced,
+        _ => true,
+    }
+}
+
+// Tells of an event, if it is to be told, and what is called otherwise from then on.
+fn tell_wanted(
+    told: &mut Vec<Entry>,
+    labels: &mut Labels,
+    event: &Event,
+    traced: bool,
+) -> Result<(), NoMemory>
+    ensures entries { OnOk result (told.new.items ≡ told.old.items ++ entries_for traced (labels_of labels.old) event.now) }
+    ensures labels { OnOk result (labels_of labels.new ≡ renamed event.now (labels_of labels.old)) }
+    ensures names { KeepsNames labels.old labels.new }
+{
+    if !is_wanted(event, traced) {
+        return Ok(());
+    }
+    tell_one(told, labels, event)?;
+    Ok(())
+}
+
 // Tells of events, one by one, each by the labels of its moment. There is room for two entries behind what is told of them.
 #[inline(never)]
-fn tell_each(alloc: Global, labels: &mut Labels, events: &[Event]) -> Result<Vec<Entry>, NoMemory>
-    ensures entries { (ts : List plain.Event) → AreTold events.now ts → IfOk result (λ es. es.items ≡ entries_of (labels_of labels.old) ts) }
+fn tell_each(
+    alloc: Global,
+    labels: &mut Labels,
+    events: &[Event],
+    traced: bool,
+) -> Result<Vec<Entry>, NoMemory>
+    ensures entries { IfOk result (λ es. es.items ≡ told_for traced (labels_of labels.old) events.now) }
     ensures labels { (ts : List plain.Event) → AreTold events.now ts → OnOk result (labels_of labels.new ≡ labels_after ts (labels_of labels.old)) }
     ensures names { OnOk result (KeepsNames labels.old labels.new) }
 {
     let mut told = Vec::with_capacity(alloc, events.len() + 2)?;
     for event in events {
-        tell_one(&mut told, labels, event)?;
+        tell_wanted(&mut told, labels, event, traced)?;
     }
     Ok(told)
+}
+
+/// Tells of events as `tell_all` does; but where no trace is asked for, nothing is told of runs and of evaluated bodies. They are noted all the same.
+///
+/// # Errors
+///
+/// `NoMemory` where memory ran out.
+#[inline(always)]
+pub fn tell_for(
+    alloc: Global,
+    labels: &mut Labels,
+    journal: &mut Option<Recorder>,
+    events: &[Event],
+    traced: bool,
+) -> Result<Vec<Entry>, NoMemory>
+    ensures entries { IfOk result (λ es. es.items ≡ told_for traced (labels_of labels.old) events.now) }
+    ensures labels { (ts : List plain.Event) → AreTold events.now ts → OnOk result (labels_of labels.new ≡ labels_after ts (labels_of labels.old)) }
+    ensures noted { (ts : List plain.Event) → AreTold events.now ts → OnOk result (journal.new ≡ noting ts journal.old) }
+    ensures names { OnOk result (KeepsNames labels.old labels.new) }
+{
+    note_all(journal, events)?;
+    match events {
+        [] => Ok(Vec::new(alloc)),
+        [Event::Change(..)] => Ok(Vec::new(alloc)),
+        _ => {
+            let told = tell_each(alloc, labels, events, traced)?;
+            Ok(told)
+        }
+    }
 }
 
 /// Tells of events, one by one, each by the labels of its moment, and notes them, if a journal was begun. Mostly there is none, or one change,
@@ -351,13 +414,6 @@ pub fn tell_all(
     ensures noted { (ts : List plain.Event) → AreTold events.now ts → OnOk result (journal.new ≡ noting ts journal.old) }
     ensures names { OnOk result (KeepsNames labels.old labels.new) }
 {
-    note_all(journal, events)?;
-    match events {
-        [] => Ok(Vec::new(alloc)),
-        [Event::Change(..)] => Ok(Vec::new(alloc)),
-        _ => {
-            let told = tell_each(alloc, labels, events)?;
-            Ok(told)
-        }
-    }
+    let told = tell_for(alloc, labels, journal, events, true)?;
+    Ok(told)
 }
