@@ -42,34 +42,41 @@ use Rattle.live_core.proofs.Names.{meant_other, meant_still}
 -- ---- flushes
 
 -- a flush that is refused
-pub refused_steps : (hosts : Hosts) (env : told.Environment) (asked : List HostPlace) (m : Machine) (told_first es : List Entry) (refused : Bool) → true ≡ refused →
-    es ≡ told_first ++ entry.Error refusal.Turns ∷ [] → IsSound hosts asked m.world →
-    Steps hosts asked m es (after_turns env refused (reached (plain_of asked m) told_first))
-refused_steps hosts env asked m told_first es refused by is sound = record {
-  step = ap (λ (x : List Entry). reached (plain_of asked m) x) is ∙ ap (λ (b : Bool). after_turns env b (reached (plain_of asked m) told_first)) by;
+pub refused_steps : (hosts : Hosts) (env : told.Environment) (asked : List HostPlace) (m : Machine) (es : List Entry) (refused : Bool) → true ≡ refused →
+    es ≡ entry.Error refusal.Turns ∷ [] → IsSound hosts asked m.world → Steps hosts asked m es (after_turns env refused (reached (plain_of asked m) []))
+refused_steps hosts env asked m es refused by is sound = record {
+  step = ap (λ (x : List Entry). reached (plain_of asked m) x) is ∙ ap (λ (b : Bool). after_turns env b (reached (plain_of asked m) [])) by;
   sound = sound;
 }
 
--- pages were brought up to date behind what was told
-pub brought_steps : (hosts : Hosts) (env : told.Environment) (asked later : List HostPlace) (m new : Machine) (told_first pages es : List Entry) (refused : Bool) → false ≡ refused →
+-- pages were brought up to date
+pub brought_steps : (hosts : Hosts) (env : told.Environment) (asked later : List HostPlace) (m new : Machine) (pages : List Entry) (refused : Bool) → false ≡ refused →
     AreUpdated env (plain_of [] m) (labels_of m.labels) asked later m.world new.world m.pages.items new.pages.items pages m.journal new.journal →
-    new ≡ record m { world = new.world; journal = new.journal; pages = new.pages; notes = new.notes } → es ≡ told_first ++ pages → IsSound hosts later new.world →
-    Steps hosts later new es (after_turns env refused (reached (plain_of asked m) told_first))
-brought_steps hosts env asked later m new told_first pages es refused by up parts is sound = record {
+    new ≡ record m { world = new.world; journal = new.journal; pages = new.pages; notes = new.notes } → IsSound hosts later new.world →
+    Steps hosts later new pages (after_turns env refused (reached (plain_of asked m) []))
+brought_steps hosts env asked later m new pages refused by up parts sound = record {
   step =
-      (λ i. reached (plain_of later (parts i)) (is i))
-      ∙ ap (λ (t : plain.Told). reached t.machine (told_first ++ t.entries)) up.step
-      ∙ ap (λ (b : Bool). after_turns env b (reached (plain_of asked m) told_first)) by;
+      ap (λ (x : Machine). reached (plain_of later x) pages) parts
+      ∙ ap (λ (t : plain.Told). reached t.machine t.entries) up.step
+      ∙ ap (λ (b : Bool). after_turns env b (reached (plain_of asked m) [])) by;
   sound = sound;
 }
+
+-- what follows turns is told behind what is told of them
+behind_turns : (env : told.Environment) (refused : Bool) (m : plain.Machine) (es : List Entry) →
+    reached (after_turns env refused (reached m [])).machine (es ++ (after_turns env refused (reached m [])).entries) ≡ after_turns env refused (reached m es)
+behind_turns env true m es = refl
+behind_turns env false m es = refl
 
 -- turns, and then pages
-pub flush_steps : (hosts : Hosts) (env : told.Environment) (asked later last : List HostPlace) (m middle new : Machine) (told_first es : List Entry) (refused : Bool) →
-    Steps hosts later middle told_first (acted_on_pages (plain_of asked m) (flush env (whole_of asked m.world)).world) →
-    refused ≡ (flush env (whole_of asked m.world)).refused → Steps hosts last new es (after_turns env refused (reached (plain_of later middle) told_first)) →
-    Steps hosts last new es (flushing env (plain_of asked m))
-flush_steps hosts env asked later last m middle new told_first es refused first is second = record {
-  step = second.step ∙ (λ i. after_turns env (is i) (first.step i));
+pub flush_steps : (hosts : Hosts) (env : told.Environment) (asked later last : List HostPlace) (m middle new : Machine) (turns news : List Entry) (refused : Bool) →
+    Steps hosts later middle turns (acted_on_pages (plain_of asked m) (flush env (whole_of asked m.world)).world) →
+    refused ≡ (flush env (whole_of asked m.world)).refused → Steps hosts last new news (after_turns env refused (reached (plain_of later middle) [])) →
+    Steps hosts last new (turns ++ news) (flushing env (plain_of asked m))
+flush_steps hosts env asked later last m middle new turns news refused first is second = record {
+  step =
+      ap (λ (t : plain.Told). reached t.machine (turns ++ t.entries)) second.step
+      ∙ (behind_turns env refused (plain_of later middle) turns ∙ (λ i. after_turns env (is i) (first.step i)));
   sound = second.sound;
 }
 

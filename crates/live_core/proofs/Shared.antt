@@ -4,8 +4,8 @@
 pub use Rattle.live_core.proofs.Rightly.{neither, none_there}
 -- as many handlers are seen as there are
 pub use Rattle.live_core.proofs.Handled.{handlers_count}
--- what is done where a trace is asked for, where none is, and where all is told
-pub use Rattle.live_core.proofs.LeftOut.{did_for, did_hiding, did_whole}
+-- what is done where all is told, and where no trace is asked for
+pub use Rattle.live_core.proofs.LeftOut.{did_all, did_for, did_hiding}
 -- what may be done that asks no host formula, and what may ask them
 pub use Rattle.live_core.proofs.Doing.{can_ask, did_alone}
 -- a cell that may be set, and what it comes to by its name

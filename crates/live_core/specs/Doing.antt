@@ -1,11 +1,11 @@
 -- What a command that may ask host formulas asks for, and what it leaves.
-use Rattle.std.specs.Prelude.{◌≡◌, ◌≤◌, ◌<◌, ◌+◌, ◌++◌, ℕ, Bool, true, List, []}
+use Rattle.std.specs.Prelude.{◌≡◌, ◌≤◌, ◌<◌, ◌+◌, ℕ, Bool, List}
 use Rattle.signal_model.specs.Recipes.{Hosts}
 use Rattle.sig_host.specs.Hosts.{HostPlace, most_asked}
 use Rattle.effect_world.specs.Costs.{weight}
 use Rattle.effect_world.specs.Stores.{Agrees, IsSound}
 use Rattle.live_entries.specs.declared.entry.Entry.{Entry}
-use Rattle.live_entries.specs.Printed.{AreTraced}
+use Rattle.live_entries.specs.Printed.{AreToldFor}
 use Rattle.live_model.specs.Machine as plain
 use Rattle.live_model.specs.Machine.{Told}
 use Rattle.live_core.specs.Consistency.{IsReady, Leaves, Steps, WorldAgrees}
@@ -39,20 +39,15 @@ pub record Did (asked later : List HostPlace) (rules : ℕ) (old new : Machine) 
   pub counted : counts
   pub most : most_asked later ≤ most_asked asked + asks
 
--- Of what is told these entries in front aren't given, which are printed only in a trace; none where one is asked for.
-pub record AreUntold (traced : Bool) (front : List Entry) : Type 0 where
-  pub hidden : AreTraced front
-  pub whole : traced ≡ true → front ≡ []
-
--- A command was done so, and what is told is these entries behind some that aren't given.
+-- A command was done so, and these entries are what is told; where no trace is asked for, some may be missing that only a trace prints.
 pub record DidFor (traced : Bool) (asked later : List HostPlace) (rules : ℕ) (old new : Machine) (before after : Hosts → Type 0)
     (counts : Type 0) (asks : ℕ) (entries : List Entry) (next : Hosts → Told) : Type 0 where
-  pub front : List Entry
-  pub untold : AreUntold traced front
-  pub did : Did asked later rules old new before after counts asks (front ++ entries) next
+  pub all : List Entry
+  pub told : AreToldFor traced entries all
+  pub did : Did asked later rules old new before after counts asks all next
 
--- A plain machine was reached, and what is told is these entries behind some that aren't given.
-pub record TellsBehind (traced : Bool) (m : plain.Machine) (entries : List Entry) (next : Told) : Type 0 where
-  pub front : List Entry
-  pub untold : AreUntold traced front
-  pub is : plain.reached m (front ++ entries) ≡ next
+-- A plain machine was reached, and these entries are what is told; where no trace is asked for, some may be missing that only a trace prints.
+pub record TellsFor (traced : Bool) (m : plain.Machine) (entries : List Entry) (next : Told) : Type 0 where
+  pub all : List Entry
+  pub told : AreToldFor traced entries all
+  pub is : plain.reached m all ≡ next

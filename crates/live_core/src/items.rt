@@ -99,7 +99,7 @@ impl Machine {
         ensures memory { IfErr result (λ e. e ≡ fault.NoMemory) }
     {
         match bare {
-            Bare::Flush => self.flush(shelf, rules),
+            Bare::Flush => self.flush(shelf, rules, true),
             Bare::Begin => self.begin(),
             Bare::Commit => self.commit(rules),
             Bare::Abort => self.abort(),

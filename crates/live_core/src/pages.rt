@@ -7,21 +7,22 @@ ghost use Rattle.sig_effect.specs.Stores.{environment};
 ghost use Rattle.effect_world.specs.Stores.{IsSound};
 ghost use Rattle.live_cmd.specs.declared.command.Bare.TheVariants as bares;
 ghost use Rattle.live_cmd.specs.declared.command.Command.TheVariants as command;
-ghost use Rattle.live_model.specs.Machine.{after_turns, done, over_limit};
+ghost use Rattle.live_model.specs.Machine.{after_turns, done, over_limit, reached};
 ghost use Rattle.live_model.specs.declared.names.Kind.TheVariants as kind;
 ghost use Rattle.live_model.specs.Names.{meaning_of};
 ghost use Rattle.live_pages.specs.Updates.{AreShown, CanSettle, Settled};
 ghost use Rattle.live_pages.specs.Views.{template_of};
 ghost use Rattle.live_labels.specs.Views.{labels_of};
 ghost use Rattle.live_core.specs.Consistency.{AreFine, IsReady, Leaves, Steps};
-ghost use Rattle.live_core.specs.Doing.{CanAsk, CanDo, Did};
+ghost use Rattle.live_core.specs.Doing.{CanAsk, CanDo, Did, DidFor};
 ghost use Rattle.live_core.specs.Views.{plain_of};
 
+use crate::answers::one;
 use crate::faults::make_page;
 use crate::machine::Machine;
 use effect_turns::flush;
 use live_entries::{Entry, Refusal};
-use live_labels::{append, tell_all};
+use live_labels::{append, tell_for};
 use live_linking::owner_of;
 use live_pages::{Mounted, bring_all_up, keep_live, mount};
 use sig_base::{Name, NoMemory, PageId};
@@ -90,21 +91,16 @@ impl Machine {
         Ok(told)
     }
 
-    // After the turns of a flush the pages are brought up to date, unless it is refused. It asks for the parts of a machine that is ready
-    // which the turns have left as they were.
-    fn end_flush(
-        &mut self,
-        shelf: &mut Shelf,
-        refused: bool,
-        told: Vec<Entry>,
-    ) -> Result<Vec<Entry>, EffectFault>
+    // After the turns of a flush the pages are brought up to date, unless it is refused, and that is told. It asks for the parts of a machine that
+    // is ready which the turns have left as they were.
+    fn end_flush(&mut self, shelf: &mut Shelf, refused: bool) -> Result<Vec<Entry>, EffectFault>
         requires shown { AreShown (map template_of self.old.templates.items) self.old.pages.items }
         requires few { length self.old.pages.items ≤ MOST_PAGES }
         requires can { CanSettle (⟦<Shelf as Lent>⟧.asked shelf.old) self.old.world (⟦<Shelf as Lent>⟧.counted shelf.old) (2 ^ 125) }
         ensures steps { (hosts : Hosts) (slacks : List ℕ) → ⟦<Shelf as Lent>⟧.answers hosts shelf.old →
             IsSound hosts (⟦<Shelf as Lent>⟧.asked shelf.old) self.old.world →
             IfOk result (λ es. Steps hosts (⟦<Shelf as Lent>⟧.asked shelf.new) self.new es.items
-            (after_turns (environment hosts slacks) refused (record { machine = plain_of (⟦<Shelf as Lent>⟧.asked shelf.old) self.old; entries = told.items }))) }
+            (after_turns (environment hosts slacks) refused (reached (plain_of (⟦<Shelf as Lent>⟧.asked shelf.old) self.old) []))) }
         ensures leaves { (hosts : Hosts) (count : ℕ) → IsReady self.old → ⟦<Shelf as Lent>⟧.answers hosts shelf.old →
             IsSound hosts (⟦<Shelf as Lent>⟧.asked shelf.old) self.old.world → OnOk result
             (Leaves (⟦<Shelf as Lent>⟧.asked shelf.old) (⟦<Shelf as Lent>⟧.asked shelf.new) count self.old self.new) }
@@ -112,9 +108,8 @@ impl Machine {
             (λ hosts. ⟦<Shelf as Lent>⟧.answers hosts shelf.old) (λ hosts. ⟦<Shelf as Lent>⟧.answers hosts shelf.new) (⟦<Shelf as Lent>⟧.counted shelf.new) (2 ^ 68) (2 ^ 75)) }
         ensures memory { IfErr result (λ e. e ≡ fault.NoMemory) }
     {
-        let mut told = told;
         if refused {
-            told.push(Entry::Error(Refusal::Turns))?;
+            let told = one(self.alloc, Entry::Error(Refusal::Turns))?;
             return Ok(told);
         }
         let pages = bring_all_up(
@@ -126,12 +121,12 @@ impl Machine {
             &mut self.pages,
             &mut self.notes,
         )?;
-        append(&mut told, pages)?;
-        Ok(told)
+        Ok(pages)
     }
 
     /// Runs the effects that are due, in turns, and then brings the pages that live up to date. An effect that is due after the last turn
-    /// makes it refused, and the pages are left as they were.
+    /// makes it refused, and the pages are left as they were. Where no trace is asked for, nothing is told of the runs and the evaluated bodies of
+    /// the turns.
     ///
     /// # Errors
     ///
@@ -140,10 +135,11 @@ impl Machine {
         &mut self,
         shelf: &mut Shelf,
         rules: &[EqualsRule],
+        traced: bool,
     ) -> Result<Vec<Entry>, EffectFault>
         requires can { CanDo (⟦<Shelf as Lent>⟧.asked shelf.old) (length rules.now) self.old (⟦<Shelf as Lent>⟧.counted shelf.old) (2 ^ 124) }
         requires alone { self.old.batch ≡ None }
-        ensures did { IfOk result (λ es. Did (⟦<Shelf as Lent>⟧.asked shelf.old) (⟦<Shelf as Lent>⟧.asked shelf.new) (length rules.now) self.old self.new
+        ensures did { IfOk result (λ es. DidFor traced (⟦<Shelf as Lent>⟧.asked shelf.old) (⟦<Shelf as Lent>⟧.asked shelf.new) (length rules.now) self.old self.new
             (λ hosts. ⟦<Shelf as Lent>⟧.answers hosts shelf.old) (λ hosts. ⟦<Shelf as Lent>⟧.answers hosts shelf.new) (⟦<Shelf as Lent>⟧.counted shelf.new) (2 ^ 80)
             es.items (λ hosts. done (environment hosts (map (λ r. r.slack) rules.now)) (plain_of (⟦<Shelf as Lent>⟧.asked shelf.old) self.old) (command.Bare bares.Flush))) }
         ensures memory { IfErr result (λ e. e ≡ fault.NoMemory) }
@@ -151,14 +147,16 @@ impl Machine {
         self.events.clear();
         let end = flush(&mut self.world, shelf, rules, &mut self.events)?;
         let _count = self.events.len();
-        let told = tell_all(
+        let mut told = tell_for(
             self.alloc,
             &mut self.labels,
             &mut self.journal,
             &self.events,
+            traced,
         )?;
         keep_live(&mut self.pages, &self.world.tables.pages);
-        let told = self.end_flush(shelf, end.refused, told)?;
+        let news = self.end_flush(shelf, end.refused)?;
+        append(&mut told, news)?;
         Ok(told)
     }
 }

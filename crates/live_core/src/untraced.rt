@@ -53,7 +53,7 @@ fn settled(
 
 impl Machine {
     /// Tells what a name of this number comes to, and not the runs on the way, which are noted. So it tells what `perform` tells of a `get`, but for entries
-    /// in front that only a trace prints.
+    /// that only a trace prints.
     ///
     /// # Errors
     ///

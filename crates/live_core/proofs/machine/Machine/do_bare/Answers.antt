@@ -3,6 +3,7 @@ use Rattle.live_cmd.specs.declared.command.Command.TheVariants as command
 use Rattle.live_model.specs.Machine.{is_done_in_batch}
 use Rattle.live_core.proofs.Batched.{alone_by}
 use Rattle.live_core.proofs.Doing.{did_alone}
+use Rattle.live_core.proofs.LeftOut.{did_whole}
 use Rattle.live_core.proofs.machine.Machine.do_bare.Goals as goal
 
 pub returns-in-Begin-clause-did : goal.returns-in-Begin-clause-did
@@ -26,7 +27,7 @@ returns-in-Record-clause-did g c = rw c.in-Record.is (did_alone c.begin_record.r
     (λ hosts sound. c.begin_record.ensures.leaves _ (length c.args.rules.now)))
 
 pub returns-in-Flush-clause-did : goal.returns-in-Flush-clause-did
-returns-in-Flush-clause-did g c = rw c.in-Flush.is c.flush.ensures.did
+returns-in-Flush-clause-did g c = rw c.in-Flush.is (did_whole c.flush.result (λ es. es.items) _ _ _ _ _ _ _ _ _ _ c.flush.ensures.did)
 
 pub flush-requires-clause-alone : goal.flush-requires-clause-alone
 flush-requires-clause-alone g c =

@@ -10,7 +10,7 @@ use Rattle.live_core.proofs.machine.Machine.end_flush.Goals as goal
 
 pub returns-then-refused-clause-steps : goal.returns-then-refused-clause-steps
 returns-then-refused-clause-steps g c = λ hosts slacks all sound.
-    refused_steps hosts (environment hosts slacks) _ c.args.self.now c.args.told.items c.push.new.self.items c.args.refused (sym c.if-refused.true) c.in_ok-push.ensures.items sound
+    refused_steps hosts (environment hosts slacks) _ c.args.self.now c.in_ok-told.told.items c.args.refused (sym c.if-refused.true) c.in_ok-told.ensures sound
 
 pub returns-clause-steps : goal.returns-clause-steps
 returns-clause-steps g c = λ hosts slacks all sound.
@@ -18,8 +18,7 @@ returns-clause-steps g c = λ hosts slacks all sound.
     let e = c.in_ok-pages.ensures in
     let up = e.pages hosts slacks (plain_of [] m) all sound c.requires.shown in
     let new = record m { world = c.bring_all_up.new.world; journal = c.bring_all_up.new.journal; pages = c.bring_all_up.new.pages; notes = c.bring_all_up.new.notes } in
-    brought_steps hosts (environment hosts slacks) _ _ m new c.args.told.items c.in_ok-pages.pages.items c.append.new.told.items
-    c.args.refused (sym c.if-refused.false) up refl c.in_ok-append.ensures (e.settled.sound hosts all sound)
+    brought_steps hosts (environment hosts slacks) _ _ m new c.in_ok-pages.pages.items c.args.refused (sym c.if-refused.false) up refl (e.settled.sound hosts all sound)
 
 pub returns-clause-leaves : goal.returns-clause-leaves
 returns-clause-leaves g c = λ hosts count ready all sound.

@@ -9,6 +9,7 @@ use Rattle.sig_effect.proofs.SharedKinds.{all_keep_kinds}
 use Rattle.sig_effect.specs.Stores.{environment, AreRuled}
 use Rattle.live_entries.specs.declared.entry.Entry.{Entry}
 use Rattle.live_entries.specs.declared.entry.Entry.TheVariants as entry
+use Rattle.live_entries.proofs.Shared.{told_behind}
 use Rattle.live_model.specs.Names.{number_of}
 use Rattle.live_labels.specs.Views.{labels_of}
 use Rattle.live_labels.proofs.Shared.{told_by}
@@ -23,8 +24,8 @@ returns-clause-did g c = λ slacks count.
     let notes = c.settled.new.notes.items in
     let front : List Entry = told_by (labels_of m.labels) (ran notes) in
     record {
-      front = front;
-      untold = record { hidden = traced_runs (labels_of m.labels) notes; whole = λ e. absurd cc };
+      all = front ++ entry.Outcome c.args.name c.in_ok-outcome.outcome ∷ [];
+      told = told_behind front (entry.Outcome c.args.name c.in_ok-outcome.outcome ∷ []) (traced_runs (labels_of m.labels) notes);
       did = record {
         steps = λ hosts all sound.
             let env = environment hosts slacks in
