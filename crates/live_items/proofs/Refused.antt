@@ -1,5 +1,5 @@
 -- Why a command is refused, and that it is done where it isn't.
-use Rattle.std.proofs.Common.{◌≡◌, ℕ, arith, Bool, false, cond, List, [], ◌∷◌, ◌++◌, Result, Ok, Err, IfOk, OnOk, Option, Some, None, is_some, refl, sym, ap, subst, ◌∙◌}
+use Rattle.std.proofs.Common.{◌≡◌, ℕ, arith, Bool, false, cond, List, [], ◌∷◌, Result, Ok, Err, IfOk, OnOk, Option, Some, None, is_some, refl, sym, ap, subst, ◌∙◌}
 use Rattle.std.specs.Option.{option_or, option_map_or}
 use Rattle.std.specs.Str.{bytes_eq}
 use Rattle.signal_model.specs.Recipes.{Hosts}
@@ -33,7 +33,7 @@ use Rattle.live_core.specs.declared.machine.Machine.{Machine}
 use Rattle.live_core.specs.Consistency.{AreFine, IsReady, Leaves, Steps}
 use Rattle.live_core.specs.Doing.{Did, DidFor}
 use Rattle.live_core.specs.Views.{batch_of, plain_of}
-use Rattle.live_core.proofs.Shared.{neither, none_there}
+use Rattle.live_core.proofs.Shared.{did_all, neither, none_there}
 
 -- an answer with none behind it
 pub alone : {A : Type 0} (o : Option A) → o ≡ option_or (option_or o None) None
@@ -162,26 +162,23 @@ pub did_so_for : (traced : Bool) (asked later : List HostPlace) (count : ℕ) (o
     DidFor traced asked later count old new before after counted asks entries (λ hosts. done (environment hosts slacks) m c) →
     DidFor traced asked later count old new before after counted asks entries (λ hosts. step (environment hosts slacks) m (item.Do c))
 did_so_for traced asked later count old new before after counted asks entries slacks m c none d = record {
-  front = d.front;
-  untold = d.untold;
-  did = did_so asked later count old new before after counted asks (d.front ++ entries) slacks m c none d.did;
+  all = d.all;
+  told = d.told;
+  did = did_so asked later count old new before after counted asks d.all slacks m c none d.did;
 }
 
 -- what is refused tells that, and all stays as it was
 pub refused_told : (traced : Bool) (asked : List HostPlace) (count : ℕ) (m : Machine) (before : Hosts → Type 0) (counted : Type 0) (asks : ℕ) (next : Hosts → plain.Told)
     (why : Refusal) → counted → IsReady m → ((hosts : Hosts) → plain.reached (plain_of asked m) (entry.Error why ∷ []) ≡ next hosts) →
     DidFor traced asked asked count m m before before counted asks (entry.Error why ∷ []) next
-refused_told traced asked count m before counted asks next why counts ready is = record {
-  front = [];
-  untold = record { hidden = tt; whole = λ e. refl };
-  did = record {
-    steps = λ hosts a sound. record { step = is hosts; sound = sound };
-    leaves = λ hosts a sound. record { ready = ready; holds = λ h. h; weight = omega arith };
-    answers = λ hosts a. a;
-    counted = counts;
-    most = omega arith;
-  };
-}
+refused_told traced asked count m before counted asks next why counts ready is =
+    did_all traced asked asked count m m before before counted asks (entry.Error why ∷ []) next (record {
+      steps = λ hosts a sound. record { step = is hosts; sound = sound };
+      leaves = λ hosts a sound. record { ready = ready; holds = λ h. h; weight = omega arith };
+      answers = λ hosts a. a;
+      counted = counts;
+      most = omega arith;
+    })
 
 -- so it is with a list of it
 pub refused_for : {A E : Type 0} (traced : Bool) (r : Result A E) (items : A → List Entry) (asked : List HostPlace) (count : ℕ) (m : Machine) (before : Hosts → Type 0)
@@ -199,8 +196,8 @@ pub refused_step : (env : Environment) (m : plain.Machine) (c : Command) (why : 
 refused_step env m c why is = ap (λ (o : Option Refusal). option_map_or (refused m) o (done env m c)) is
 
 -- where nothing is left out, all is told
-pub told_whole : (m : plain.Machine) (front es : List Entry) (next : plain.Told) → front ≡ [] → plain.reached m (front ++ es) ≡ next → plain.reached m es ≡ next
-told_whole m front es next none is = sym (ap (λ (xs : List Entry). plain.reached m (xs ++ es)) none) ∙ is
+pub told_whole : (m : plain.Machine) (es all : List Entry) (next : plain.Told) → es ≡ all → plain.reached m all ≡ next → plain.reached m es ≡ next
+told_whole m es all next same is = ap (λ (xs : List Entry). plain.reached m xs) same ∙ is
 
 -- ---- what is refused for its name alone
 

@@ -189,7 +189,7 @@ fn try_flush(
     if machine.batch.is_some() {
         return try_command(machine, shelf, rules, Command::Bare(Bare::Flush), traced);
     }
-    match machine.flush(shelf, rules) {
+    match machine.flush(shelf, rules, traced) {
         Ok(entries) => Ok(entries),
         Err(fault) => Err(memory_of(fault)),
     }
@@ -236,7 +236,7 @@ fn do_command(
     }
 }
 
-/// Does one item. A refused one changes nothing. What is told in front and only in a trace may be left out where none is asked for.
+/// Does one item. A refused one changes nothing. What only a trace prints may be left out where none is asked for.
 pub(crate) fn act(
     machine: &mut Machine,
     shelf: &mut Shelf,

@@ -9,7 +9,7 @@ ghost use Rattle.live_cmd.specs.declared.command.Item.TheVariants as item;
 ghost use Rattle.live_cmd.specs.declared.command.Verb.TheVariants as verb;
 ghost use Rattle.live_model.specs.Machine.{empty, step, reached, Machine};
 ghost use Rattle.live_core.specs.Consistency.{IsKept, IsReadItem, SomeHosts};
-ghost use Rattle.live_core.specs.Doing.{TellsBehind};
+ghost use Rattle.live_core.specs.Doing.{TellsFor};
 ghost use Rattle.live_core.specs.Views.{plain_of};
 
 use crate::commands::{act, try_get, try_set};
@@ -101,8 +101,8 @@ impl Live {
         })
     }
 
-    /// Does one item as `do_command` does, whose clauses it has. Where no trace is asked for, entries in front may be left out that are
-    /// printed only there: the runs on the way to what a `get` tells.
+    /// Does one item as `do_command` does, whose clauses it has. Where no trace is asked for, entries may be left out that are printed only
+    /// there: the runs on the way to what a `get` tells, and of the turns of a `flush` the runs and the evaluated bodies.
     ///
     /// # Errors
     ///
@@ -115,7 +115,7 @@ impl Live {
         requires room { self.old.done < 2 ^ 23 }
         ensures step { (hosts : Hosts) → ⟦<Shelf as Lent>⟧.answers hosts self.old.shelf → ⟦<Live as Running>⟧.sound hosts self.old →
             IfOk result (λ es.
-            TellsBehind traced (⟦<Live as Running>⟧.machine self.new) es.items
+            TellsFor traced (⟦<Live as Running>⟧.machine self.new) es.items
             (step (environment hosts (⟦<Live as Running>⟧.slacks self.old)) (⟦<Live as Running>⟧.machine self.old) item)
             × ⟦<Live as Running>⟧.sound hosts self.new × ⟦<Shelf as Lent>⟧.answers hosts self.new.shelf) }
         ensures kept { ⟦<Live as Running>⟧.kept self.new }
@@ -155,7 +155,7 @@ impl Live {
         requires room { self.old.done < 2 ^ 23 }
         ensures step { (hosts : Hosts) → ⟦<Shelf as Lent>⟧.answers hosts self.old.shelf → ⟦<Live as Running>⟧.sound hosts self.old →
             IfOk result (λ e.
-            TellsBehind false (⟦<Live as Running>⟧.machine self.new) (e ∷ [])
+            TellsFor false (⟦<Live as Running>⟧.machine self.new) (e ∷ [])
             (step (environment hosts (⟦<Live as Running>⟧.slacks self.old)) (⟦<Live as Running>⟧.machine self.old) (item.Do (command.Named verb.Get name)))
             × ⟦<Live as Running>⟧.sound hosts self.new × ⟦<Shelf as Lent>⟧.answers hosts self.new.shelf) }
         ensures kept { ⟦<Live as Running>⟧.kept self.new }

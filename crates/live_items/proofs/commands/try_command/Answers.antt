@@ -1,9 +1,10 @@
-use Rattle.std.proofs.Common.{◌∙◌, List, [], is_some, map, refl, sym}
+use Rattle.std.proofs.Common.{◌∙◌, List, is_some, map, sym}
 use Rattle.sig_host.specs.Hosts.{HostPlace}
 use Rattle.sig_effect.specs.Stores.{environment}
 use Rattle.live_pages.specs.Views.{template_of}
 use Rattle.live_pages.proofs.Shared.{all_standing}
 use Rattle.live_core.specs.Views.{plain_of}
+use Rattle.live_core.proofs.Shared.{did_all}
 use Rattle.live_items.proofs.Refused.{did_so_for, fine_here, refused_for, refused_step, unrefused_batch, unrefused_last, unrefused_names, unrefused_rows}
 use Rattle.live_items.proofs.commands.try_command.Goals as goal
 
@@ -43,7 +44,7 @@ returns-in-Ok-perform g c =
     let why = rw c.in-Ok.is at c.refusal_of.ensures in
     record {
       did = did_so_for c.args.traced _ _ _ _ _ _ _ _ _ _ (map (λ r. r.slack) c.args.rules.now) (plain_of _ c.args.machine.now) c.args.command
-          (sym why ∙ c.in_default-refusal.is) (record { front = []; untold = record { hidden = tt; whole = λ _. refl }; did = rw c.in-Ok-perform.is at c.perform.ensures.did });
+          (sym why ∙ c.in_default-refusal.is) (did_all c.args.traced _ _ _ _ _ _ _ _ _ _ _ (rw c.in-Ok-perform.is at c.perform.ensures.did));
     }
 
 pub refusal_of-requires : goal.refusal_of-requires

@@ -1,4 +1,4 @@
-use Rattle.std.proofs.Common.{◌∙◌, List, [], is_some, map, refl, sym}
+use Rattle.std.proofs.Common.{◌∙◌, List, is_some, map, sym}
 use Rattle.sig_host.specs.Hosts.{HostPlace}
 use Rattle.live_cmd.specs.declared.command.Bare.TheVariants as bares
 use Rattle.live_cmd.specs.declared.command.Command.TheVariants as command
@@ -17,5 +17,5 @@ returns-in-Ok g c =
     let free = flush_alone slacks asked c.args.machine.now (sym c.is_some.ensures ∙ c.if-is_some.false) in
     record {
       did = did_so_for c.args.traced _ _ _ _ _ _ _ _ _ _ slacks (plain_of asked c.args.machine.now) (command.Bare bares.Flush) free
-          (record { front = []; untold = record { hidden = tt; whole = λ _. refl }; did = rw c.in-Ok.is at c.flush.ensures.did });
+          (rw c.in-Ok.is at c.flush.ensures.did);
     }

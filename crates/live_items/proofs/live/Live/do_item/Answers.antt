@@ -14,7 +14,7 @@ pub returns-clause-step : goal.returns-clause-step
 returns-clause-step g c = λ hosts all sound.
     let d = c.in_ok-entries.ensures.did in
     let t = d.did.steps hosts all sound in
-    (record { front = d.front; untold = d.untold; is = rw c.deref.ensures.value at t.step }, t.sound, d.did.answers hosts all)
+    (record { all = d.all; told = d.told; is = rw c.deref.ensures.value at t.step }, t.sound, d.did.answers hosts all)
 
 pub returns-clause-meant : goal.returns-clause-meant
 returns-clause-meant g c = λ _.

@@ -16,7 +16,7 @@ returns-clause-step g c = λ hosts all sound.
     let rules = c.args.self.now.rules.items in
     let d = c.in_ok-entry.ensures.did (map (λ r. r.slack) rules) (length rules) in
     let t = d.did.steps hosts all sound in
-    (record { front = d.front; untold = d.untold; is = t.step }, t.sound, d.did.answers hosts all)
+    (record { all = d.all; told = d.told; is = t.step }, t.sound, d.did.answers hosts all)
 
 pub returns-clause-meant : goal.returns-clause-meant
 returns-clause-meant g c = λ _.
