@@ -5,7 +5,7 @@ use Rattle.sig_computed.specs.Notes.{Note}
 use Rattle.sig_effect.specs.declared.events.Event.{Event}
 use Rattle.sig_effect.specs.declared.events.Event.TheVariants as event
 use Rattle.sig_effect.specs.Events.{AreTold, IsTold}
-use Rattle.why_model.specs.Facts.{Fact, has_run}
+use Rattle.why_model.specs.Facts.{has_run}
 use Rattle.why_model.specs.Records.{Journal, with_fact, with_facts}
 use Rattle.why_model.specs.Told.{facts_told}
 use Rattle.live_labels.specs.Facts.{facts_noted}
