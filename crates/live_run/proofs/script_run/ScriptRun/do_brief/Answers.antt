@@ -1,10 +1,10 @@
-use Rattle.std.proofs.Common.{List, ◌∷◌, [], ◌++◌, ℕ, ap, sym, ◌∙◌, append_assoc}
+use Rattle.std.proofs.Common.{List, ◌∷◌, [], ◌++◌, ℕ, ap, sym, ◌∙◌}
 use Rattle.live_cmd.specs.declared.command.Command.TheVariants as command
 use Rattle.live_cmd.specs.declared.command.Item.TheVariants as item
 use Rattle.live_cmd.specs.declared.command.Verb.TheVariants as verb
 use Rattle.live_entries.specs.declared.entry.Entry.{Entry}
-use Rattle.live_report.specs.Reports.{still}
-use Rattle.live_run.proofs.LeftOut.{sized_behind}
+use Rattle.live_entries.proofs.Shared.{left_behind, left_whole}
+use Rattle.live_run.proofs.LeftOut.{sized_whole}
 use Rattle.live_run.proofs.script_run.ScriptRun.do_brief.Goals as goal
 
 pub returns-then-not-is_untraced-clause-did : goal.returns-then-not-is_untraced-clause-did
@@ -15,19 +15,17 @@ returns-in_ok-take_entries-in-Get-clause-did g c = λ hosts all sound.
     let s = c.in_ok-told-in-Get.ensures.step hosts all sound in
     let t = s.0 in
     let es : List Entry = c.in_ok-told-in-Get.told ∷ [] in
-    let r = c.args.self.now.report in
     let plain = c.is_untraced.ensures in
     rw c.in-Get.is (
       record {
-        entries = t.front ++ es;
+        entries = t.all;
         is = t.is;
-        sized = sized_behind t.front es t.untold.hidden (rw c.from_ref.ensures.value at c.in_ok-take_entries-in-Get.ensures.sized);
+        sized = sized_whole t.told.left (rw c.from_ref.ensures.value at c.in_ok-take_entries-in-Get.ensures.sized);
         took = λ is fs.
             (rw c.from_ref.ensures.value at c.in_ok-take_entries-in-Get.ensures.prints is fs)
             ∙ ap (λ (l : List ℕ). c.args.self.now.out.items ++ l)
-            (sym (plain.runs c.if-not-is_untraced.false is t.front (es ++ fs) t.untold.hidden)
-            ∙ sym (plain.items c.if-not-is_untraced.false (item.Do (command.Named verb.Get c.in-Get.name)) is (t.front ++ (es ++ fs)))
-            ∙ ap (λ (xs : List Entry). still r (item.Do (command.Named verb.Get c.in-Get.name) ∷ is) xs) (sym (append_assoc t.front es fs)));
+            (plain.runs c.if-not-is_untraced.false is (es ++ fs) (t.all ++ fs) (left_behind t.told.left (left_whole fs))
+            ∙ sym (plain.items c.if-not-is_untraced.false (item.Do (command.Named verb.Get c.in-Get.name)) is (t.all ++ fs)));
       },
       s.1,
       s.2,

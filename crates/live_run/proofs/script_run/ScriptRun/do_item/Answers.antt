@@ -1,7 +1,6 @@
-use Rattle.std.proofs.Common.{List, ◌∷◌, ◌++◌, ℕ, ap, sym, ◌∙◌, append_assoc}
+use Rattle.std.proofs.Common.{List, ◌++◌, ℕ, ap, ◌∙◌}
 use Rattle.live_entries.specs.declared.entry.Entry.{Entry}
-use Rattle.live_report.specs.Reports.{still}
-use Rattle.live_run.proofs.LeftOut.{left_out, sized_behind}
+use Rattle.live_run.proofs.LeftOut.{left_out, sized_whole}
 use Rattle.live_run.proofs.script_run.ScriptRun.do_item.Goals as goal
 
 pub returns-clause-did : goal.returns-clause-did
@@ -10,15 +9,14 @@ returns-clause-did g c = λ hosts all sound.
     let t = s.0 in
     let es : List Entry = c.in_ok-told.told.items in (
       record {
-        entries = t.front ++ es;
+        entries = t.all;
         is = t.is;
-        sized = sized_behind t.front es t.untold.hidden (rw c.deref.ensures.value at c.in_ok-take_entries.ensures.sized);
+        sized = sized_whole t.told.left (rw c.deref.ensures.value at c.in_ok-take_entries.ensures.sized);
         took = λ is fs.
             (rw c.deref.ensures.value at c.in_ok-take_entries.ensures.prints is fs)
             ∙ ap (λ (l : List ℕ). c.args.self.now.out.items ++ l)
-            (sym (left_out c.is_untraced-traced.result c.take_item.new.self t.front t.untold.hidden t.untold.whole c.is_untraced-traced.ensures.runs is (es ++ fs))
-            ∙ c.take_item.ensures.prints is (t.front ++ (es ++ fs))
-            ∙ ap (λ (xs : List Entry). still c.args.self.now.report (c.args.item ∷ is) xs) (sym (append_assoc t.front es fs)));
+            (left_out c.is_untraced-traced.result c.take_item.new.self es t.all fs t.told c.is_untraced-traced.ensures.runs is
+            ∙ c.take_item.ensures.prints is (t.all ++ fs));
       },
       s.1,
       s.2,
