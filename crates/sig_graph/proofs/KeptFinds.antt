@@ -11,8 +11,7 @@ use Rattle.sig_graph.specs.States.{State}
 use Rattle.sig_nodes.specs.Nodes.{body_at, changed_at, is_computed_body, known_node, with_body_known}
 use Rattle.sig_graph.specs.Parts.{memos_of}
 use Rattle.sig_graph.specs.Places.{KeepsFound}
-use Rattle.sig_seats.specs.declared.finds.Found.{Found}
-use Rattle.sig_seats.specs.Found.{found_at, place_of}
+use Rattle.sig_seats.specs.Found.{Noted, found_at, place_of}
 use Rattle.sig_graph.specs.Search.{is_due_at, HasDue}
 use Rattle.sig_nodes.proofs.Shared.{body_changed}
 use Rattle.sig_graph.proofs.StateEdits.{known_state}
@@ -20,14 +19,14 @@ use Rattle.sig_graph.proofs.StateEdits.{known_state}
 -- ---- what is true of it
 
 -- nothing is found of no nodes
-pub none_kept : (fs : List Found) → ((n : ℕ) → found_at fs n ≡ 0) → KeepsFound [] 0 0 fs
+pub none_kept : (fs : Noted) → ((n : ℕ) → found_at fs n ≡ 0) → KeepsFound [] 0 0 fs
 none_kept fs h = record {
   past = λ n. let e : found_at fs n ≡ 0 = h n in omega (arith, e);
   due = λ n c e. absurd (true≢false (sym c));
 }
 
 -- after one more change nothing is found
-pub raised_kept : (xs ys : List Node) (g h w : ℕ) (fs : List Found) → KeepsFound xs g w fs → KeepsFound ys h (w + 1) fs
+pub raised_kept : (xs ys : List Node) (g h w : ℕ) (fs : Noted) → KeepsFound xs g w fs → KeepsFound ys h (w + 1) fs
 raised_kept xs ys g h w fs k = record {
   past = λ n. let p : found_at fs n ≤ w = k.past n in omega (arith, p);
   due = λ n c e. let p : found_at fs n ≤ w = k.past n in absurd (omega (arith, p, e));
@@ -38,7 +37,7 @@ abbrev DueBy : Signals → Memos → ℕ → Type 0
 DueBy w k n = (is_due w k n ≡ true) ⊎ HasBelow (is_due w k) k n
 
 -- a step of an evaluation changes neither
-pub known_found : (k : Option (List Known)) (n : ℕ) (xs : List Node) (g w : ℕ) (fs : List Found) → KeepsFound xs g w fs → KeepsFound (changed_at (known_node k) n xs) g w fs
+pub known_found : (k : Option (List Known)) (n : ℕ) (xs : List Node) (g w : ℕ) (fs : Noted) → KeepsFound xs g w fs → KeepsFound (changed_at (known_node k) n xs) g w fs
 known_found k n xs g w fs h = record {
   past = h.past;
   due = λ m c e. subst (λ (s : State). DueBy s.signals s.memos m) (sym (known_state xs n k g 0 0)) (h.due m (sym (kind m) ∙ c) e);
@@ -54,7 +53,7 @@ known_found k n xs g w fs h = record {
         go true (ComputedBody c) = refl
 
 -- one more is found, and another may be forgotten
-pub noted_kept : (xs : List Node) (g w id : ℕ) (fs us : List Found) → HasDue xs g id →
+pub noted_kept : (xs : List Node) (g w id : ℕ) (fs us : Noted) → HasDue xs g id →
     ((n : ℕ) → (found_at us n ≡ found_at fs n) ⊎ (((n ≡ id) × (found_at us n ≡ w)) ⊎ ((place_of n ≡ place_of id) × (found_at us n ≡ 0)))) →
     KeepsFound xs g w fs → KeepsFound xs g w us
 noted_kept xs g w id fs us due noted h = record {

@@ -11,7 +11,7 @@ use Rattle.signal_model.specs.Memos.{Memo, Memos, Entry, entry_at, holds_cycle, 
 use Rattle.signal_model.proofs.Shared.{tested}
 use Rattle.sig_marks.specs.Tables.{Drops, MarkTable, Pushes, Relinks, Spreads, depends, marked_at, stands_at, with_place}
 use Rattle.std.specs.List.{All}
-use Rattle.sig_seats.specs.declared.finds.Found.{Found}
+use Rattle.sig_seats.specs.Found.{Noted}
 use Rattle.sig_graph.specs.Search.{is_seated, search_unmarks, some_marked_at, some_seated, stays_marked, stop_unmarks_by, Reaches}
 use Rattle.sig_marks.proofs.Shared.{all_in, depends_end, depends_past, mark_end, mark_other, mark_past, mark_set, mark_set_len, set_more}
 use Rattle.mark_laws.proofs.Shared.{marked_spread}
@@ -568,7 +568,7 @@ same_table xs gen u dss us ss e f g h = record {
 }
 
 -- a step of an evaluation that is under way
-pub known_graph : (k : Option (List Known)) (n : ℕ) (xs : List Node) (seats : Seating) (gen w : ℕ) (t : MarkTable) (fs : List Found) → is_some (known_body (body_at xs n)) ≡ true →
+pub known_graph : (k : Option (List Known)) (n : ℕ) (xs : List Node) (seats : Seating) (gen w : ℕ) (t : MarkTable) (fs : Noted) → is_some (known_body (body_at xs n)) ≡ true →
     IsGraph xs seats gen w t fs → IsGraph (changed_at (known_node k) n xs) seats gen w t fs
 known_graph k n xs seats gen w t fs on h = record { fields = known_holds k n xs seats gen w h.fields; marks = known_kept k n xs gen t on h.marks; found = known_found k n xs gen w fs h.found }
 

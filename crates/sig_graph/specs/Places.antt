@@ -7,8 +7,7 @@ use Rattle.mark_laws.specs.Marked.{relinked}
 use Rattle.sig_nodes.specs.declared.node.Node.{Node}
 use Rattle.sig_graph.specs.Parts.{cells_of, computeds_of, state_of}
 use Rattle.sig_nodes.specs.Nodes.{body_at, change_at, seat_at, is_computed_body, is_live_body, memo_body, slots_body, FewSlotsBody}
-use Rattle.sig_seats.specs.declared.finds.Found.{Found}
-use Rattle.sig_seats.specs.Found.{found_at}
+use Rattle.sig_seats.specs.Found.{Noted, found_at}
 use Rattle.sig_graph.specs.Search.{AreSeated, HasDue}
 use Rattle.sig_seats.specs.Seats.{Seating, holder}
 use Rattle.sig_graph.specs.States.{State, Seen}
@@ -52,19 +51,19 @@ pub record KeepsMarks (nodes : List Node) (generation : ℕ) (t : MarkTable) : T
   pub marked : AreStateMarks (state_of nodes generation 0 0) (depends t.dependants) (marked_at t.marked)
 
 -- What searches found is of no later count of changes than the present one, and what they found at that of a computed is so.
-pub record KeepsFound (nodes : List Node) (generation worn : ℕ) (found : List Found) : Type 0 where
+pub record KeepsFound (nodes : List Node) (generation worn : ℕ) (found : Noted) : Type 0 where
   pub past : (n : ℕ) → found_at found n ≤ worn
   pub due : (n : ℕ) → is_computed_body (body_at nodes n) ≡ true → found_at found n ≡ worn → HasDue nodes generation n
 
 -- what a search below n needs of them: n is a computed, marks are true, each has its own seat, and what was found is so
-pub record CanSearch (nodes : List Node) (generation worn : ℕ) (t : MarkTable) (found : List Found) (n : ℕ) : Type 0 where
+pub record CanSearch (nodes : List Node) (generation worn : ℕ) (t : MarkTable) (found : Noted) (n : ℕ) : Type 0 where
   pub live : is_computed_body (body_at nodes n) ≡ true
   pub marks : KeepsMarks nodes generation t
   pub seats : AreSeated nodes MOST_NODES
   pub kept : KeepsFound nodes generation worn found
 
 -- all of them hold
-pub record IsGraph (nodes : List Node) (seats : Seating) (generation worn : ℕ) (t : MarkTable) (finds : List Found) : Type 0 where
+pub record IsGraph (nodes : List Node) (seats : Seating) (generation worn : ℕ) (t : MarkTable) (finds : Noted) : Type 0 where
   pub fields : NodesAgree nodes seats generation worn
   pub marks : KeepsMarks nodes generation t
   pub found : KeepsFound nodes generation worn finds
