@@ -44,7 +44,7 @@ front_heard (p ∷ ps) (suc count) zero n o once lt e =
 front_heard (p ∷ ps) (suc count) (suc i) n o once lt e =
     rw (flipped p.0 n (apart_from p.0 ps i n o once.0 e)) (front_heard ps count i n o once.1 (omega (arith, lt)) e)
 
-all_heard : (before : Outcomes) (i n : ℕ) (o : Outcome) → IsDistinct nat_eq (keys_of before) → slice_get before i ≡ Some (n, o) → heard_of before n ≡ Some o
+pub all_heard : (before : Outcomes) (i n : ℕ) (o : Outcome) → IsDistinct nat_eq (keys_of before) → slice_get before i ≡ Some (n, o) → heard_of before n ≡ Some o
 unfolding IsDistinct
 all_heard [] i n o once e = cc
 all_heard (p ∷ ps) zero n o once e =

@@ -6,4 +6,6 @@ mod Fronts
 mod Paired
 mod Unmoved
 mod Stood
+mod Noted
+mod Cells
 pub mod Shared

@@ -8,3 +8,6 @@ pub use Rattle.tpl_hearing.proofs.Asks.{have_heard, outcome_in, were_still}
 pub use Rattle.tpl_hearing.proofs.HeardAgain.{still_as_before}
 -- and of which it is known whether they have the outcomes of before
 pub use Rattle.tpl_hearing.proofs.Compared.{still_compared}
+-- names of cells that show what was heard
+pub use Rattle.tpl_hearing.proofs.Stood.{cells_heard}
+pub use Rattle.tpl_hearing.proofs.Cells.{all_but, cells_still, none_differs, StandsStill}

@@ -23,6 +23,7 @@ use Rattle.sig_computed.specs.Notes.{IsIdle, run_note}
 use Rattle.sig_computed.proofs.Shared.{nothing_settled}
 use Rattle.tpl_hearing.specs.Heard.{Hears, Outcomes, Scene, Settles}
 use Rattle.tpl_hearing.specs.HeardAgain.{StandsAs}
+use Rattle.tpl_hearing.specs.Unseen.{IsCellAs}
 use Rattle.tpl_hearing.proofs.Names.{one_heard}
 
 -- what is answered as a computed is one
@@ -40,17 +41,21 @@ still_cell hosts w k n c st =
     ∙ (λ i. visit_case (st i) (is_in n [] || is_in n (visited [])) []
     (λ d. visits (visit hosts w (n ∷ [])) (reads_of hosts w d) [] ++ record { computed = d; path = [] } ∷ [])))
 
--- a cell shows its value
-pub stands_cell : (w : Signals) (k : Memos) (n : ℕ) (v : Value) (o : Outcome) → Some v ≡ value_here (standing w n) → o ≡ Good v → StandsAs w k n o
-stands_cell w k n v o at is = go (standing w n) refl at
+-- a cell that has this value shows it
+pub cell_as : (w : Signals) (n : ℕ) (v : Value) (o : Outcome) → Some v ≡ value_here (standing w n) → o ≡ Good v → IsCellAs w n o
+cell_as w n v o at is = go (standing w n) refl at
   where
-    go : (st : Stands) → standing w n ≡ st → Some v ≡ value_here st → StandsAs w k n o
+    go : (st : Stands) → standing w n ≡ st → Some v ≡ value_here st → IsCellAs w n o
     go IsGone st e = cc
     go (IsComputed c) st e = cc
-    go (IsCell c) st e = record {
-      still = λ hosts kept. still_cell hosts w k n c st;
-      value = λ hosts kept. is ∙ ap (λ (x : Option Value). Good (unwrap_or x v)) e ∙ sym (value_cell hosts w n [] c st);
-    }
+    go (IsCell c) st e = record { cell = c; stands = st; shows = is ∙ ap (λ (x : Option Value). Good (unwrap_or x v)) e }
+
+-- what a cell shows it shows as it stands
+pub cell_stands : (w : Signals) (k : Memos) (n : ℕ) (o : Outcome) → IsCellAs w n o → StandsAs w k n o
+cell_stands w k n o c = record {
+  still = λ hosts kept. still_cell hosts w k n c.cell c.stands;
+  value = λ hosts kept. c.shows ∙ sym (value_cell hosts w n [] c.cell c.stands);
+}
 
 -- a computed that is clean shows what it keeps
 pub stands_clean : (w : Signals) (k : Memos) (n : ℕ) (o : Outcome) → is_computed (standing w n) ≡ true → mark_of w k n ≡ Clean →

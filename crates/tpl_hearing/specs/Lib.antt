@@ -1,3 +1,4 @@
 pub mod Heard
 pub mod HeardAgain
 pub mod Standing
+pub mod Unseen

@@ -1,15 +1,16 @@
 // Names that were heard at another time, heard again.
-ghost use Rattle.std.specs.Prelude.{◌≡◌, ◌+◌, ◌<◌, ◌≤◌, [], length, take, true, Some, IfOk, IfSome, OnOk};
+ghost use Rattle.std.specs.Prelude.{◌≡◌, ◌+◌, ◌<◌, ◌≤◌, [], length, take, true, Some, IfNone, IfOk, IfSome, OnOk};
 ghost use Rattle.std.specs.List.{zip};
 ghost use Rattle.std.specs.Map.{keys_of};
 ghost use Rattle.signal_laws.specs.ReadLaws.{with_name};
 ghost use Rattle.tpl_hearing.specs.Heard.{scene, CanSettle, Hears};
 ghost use Rattle.tpl_hearing.specs.HeardAgain.{heard_by, AreCompared, AreHeardAgain, IsAsBefore, IsCompared, IsFront};
 ghost use Rattle.tpl_hearing.specs.Standing.{StandBetween};
+ghost use Rattle.tpl_hearing.specs.Unseen.{AreCellsBetween};
 
 use crate::comparisons::{Rehearing, hear_compared};
 use crate::outcomes::{Outcomes, pair_at, settle_name};
-use crate::still::{is_number_as, stands_as};
+use crate::still::{is_number_as, shows_as_cell, stands_as};
 use sig_base::{NoMemory, NodeId, Outcome};
 use sig_computed::RunNote;
 use sig_graph::Graph;
@@ -107,7 +108,7 @@ pub fn hear_again(
 fn numbers_up_to(graph: &Graph, ids: &[NodeId], outcomes: &[Outcome], from: usize) -> usize
     requires within { length outcomes.now ≤ length ids.now }
     requires from { from ≤ length outcomes.now }
-    ensures { StandBetween graph.now.state.signals graph.now.state.memos (zip ids.now outcomes.now) from result }
+    ensures { AreCellsBetween graph.now.state.signals (zip ids.now outcomes.now) from result }
 {
     let count = outcomes.len();
     for place in from..count {
@@ -119,22 +120,54 @@ fn numbers_up_to(graph: &Graph, ids: &[NodeId], outcomes: &[Outcome], from: usiz
     count
 }
 
-// The first place from this one on where a name doesn't show the outcome of before as it stands, or the end. Cells that show numbers are passed over
+// The first place from this one on where a name isn't a cell that shows the outcome of before, or the end. Cells that show numbers are passed over
 // in a loop of their own.
 #[inline(never)]
+fn cells_up_to(graph: &Graph, ids: &[NodeId], outcomes: &[Outcome], from: usize) -> usize
+    requires within { length outcomes.now ≤ length ids.now }
+    requires from { from ≤ length outcomes.now }
+    ensures { AreCellsBetween graph.now.state.signals (zip ids.now outcomes.now) from result }
+{
+    let mut place = numbers_up_to(graph, ids, outcomes, from);
+    while place < outcomes.len() {
+        let (id, was) = pair_at(ids, outcomes, place);
+        if !shows_as_cell(graph, id, was) {
+            return place;
+        }
+        let next = numbers_up_to(graph, ids, outcomes, place + 1);
+        place = next;
+    }
+    place
+}
+
+/// The first place where a name isn't that of a cell which shows what was heard of it, if there is one.
+pub fn first_other(graph: &Graph, heard: &Outcomes) -> Option<usize>
+    ensures some { IfSome result (AreCellsBetween graph.now.state.signals heard.now 0) }
+    ensures none { IfNone result (AreCellsBetween graph.now.state.signals heard.now 0 (length heard.now)) }
+{
+    let count = heard.count();
+    let (ids, outcomes) = heard.lists();
+    let place = cells_up_to(graph, ids, outcomes, 0);
+    if place < count {
+        return Some(place);
+    }
+    None
+}
+
+// The first place from this one on where a name doesn't show the outcome of before as it stands, or the end.
 fn standing_up_to(graph: &mut Graph, ids: &[NodeId], outcomes: &[Outcome], from: usize) -> usize
     requires within { length outcomes.now ≤ length ids.now }
     requires from { from ≤ length outcomes.now }
     ensures same { graph.new ≡ graph.old }
     ensures stand { StandBetween graph.old.state.signals graph.old.state.memos (zip ids.now outcomes.now) from result }
 {
-    let mut place = numbers_up_to(graph, ids, outcomes, from);
+    let mut place = cells_up_to(graph, ids, outcomes, from);
     while place < outcomes.len() {
         let (id, was) = pair_at(ids, outcomes, place);
         if !stands_as(graph, id, was) {
             return place;
         }
-        let next = numbers_up_to(graph, ids, outcomes, place + 1);
+        let next = cells_up_to(graph, ids, outcomes, place + 1);
         place = next;
     }
     place
@@ -173,7 +206,7 @@ fn hear_at(
 }
 
 /// Hears all names that were heard before again, in their order, up to the first that has another outcome: what was heard then, or nothing where
-/// each has the outcome of before.
+/// each has the outcome of before. Those before a place are known to be cells that show it.
 ///
 /// # Errors
 ///
@@ -182,10 +215,12 @@ pub fn hear_all_again(
     graph: &mut Graph,
     shelf: &mut Shelf,
     before: &Outcomes,
+    from: usize,
     notes: &mut Vec<RunNote>,
 ) -> Result<Option<Rehearing>, NoMemory>
     requires can { CanSettle (scene graph.old (⟦<Shelf as Lent>⟧.asked shelf.old) notes.old.items) }
     requires counted { ⟦<Shelf as Lent>⟧.counted shelf.old }
+    requires cells { AreCellsBetween graph.old.state.signals before.now 0 from }
     ensures front { IfOk result (λ r. IfSome r (λ h. IsFront before.now h.heard)) }
     ensures compared { IfOk result (λ r. IfSome r (λ h. AreCompared before.now h)) }
     ensures after { IfOk result (λ r. Hears
@@ -196,7 +231,7 @@ pub fn hear_all_again(
 {
     let count = before.count();
     let (ids, outcomes) = before.lists();
-    let mut place = standing_up_to(graph, ids, outcomes, 0);
+    let mut place = standing_up_to(graph, ids, outcomes, from);
     while place < count {
         if let Some(hearing) = hear_at(graph, shelf, before, place, notes)? {
             return Ok(Some(hearing));

@@ -7,8 +7,10 @@ mod evaluation;
 mod name_list;
 mod outcomes;
 mod still;
+mod unseen;
 
-pub use again::{hear_again, hear_all_again};
+pub use again::{first_other, hear_again, hear_all_again};
 pub use comparisons::{Comparisons, Rehearing};
 pub use evaluation::{Evaluated, Read, evaluate};
 pub use outcomes::{Outcomes, hear};
+pub use unseen::Unseen;

@@ -238,6 +238,16 @@ impl Outcomes {
         }
     }
 
+    /// Whether a name was heard.
+    pub(crate) fn has(&self, id: NodeId) -> bool
+        ensures { result ≡ false → heard_of self.now id ≡ None }
+    {
+        match self.find(id) {
+            Some(_) => true,
+            None => false,
+        }
+    }
+
     /// The outcome that was heard at a place, where it is that of this name.
     #[inline(always)]
     pub(crate) fn here(&self, place: usize, id: NodeId) -> Option<&Outcome>

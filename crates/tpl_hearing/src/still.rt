@@ -5,6 +5,7 @@ ghost use Rattle.signal_model.specs.Signals.{is_computed, standing};
 ghost use Rattle.signal_model.specs.Memos.{memo_of};
 ghost use Rattle.signal_model.specs.Sound.{kept_outcome};
 ghost use Rattle.tpl_hearing.specs.HeardAgain.{StandsAs};
+ghost use Rattle.tpl_hearing.specs.Unseen.{IsCellAs};
 
 use sig_base::{NodeId, Outcome, Value};
 use sig_graph::{Graph, Mark, Standing};
@@ -45,7 +46,7 @@ fn is_number(outcome: &Outcome, value: &Value) -> bool
 /// Whether a signal is a cell that shows the number of an outcome as it stands. It calls nothing, so that it may be asked of many names in a loop.
 #[inline(always)]
 pub(crate) fn is_number_as(graph: &Graph, id: NodeId, was: &Outcome) -> bool
-    ensures { result ≡ true → StandsAs graph.now.state.signals graph.now.state.memos id was.now }
+    ensures { result ≡ true → IsCellAs graph.now.state.signals id was.now }
 {
     match graph.cell_value(id) {
         Some(value) => is_number(was, value),
@@ -56,11 +57,22 @@ pub(crate) fn is_number_as(graph: &Graph, id: NodeId, was: &Outcome) -> bool
 // Whether a cell shows an outcome, where a cell stands.
 #[inline(always)]
 fn is_cell_as(graph: &Graph, id: NodeId, was: &Outcome) -> Option<bool>
-    ensures { result ≡ Some true → StandsAs graph.now.state.signals graph.now.state.memos id was.now }
+    ensures { result ≡ Some true → IsCellAs graph.now.state.signals id was.now }
 {
     match graph.cell_value(id) {
         Some(value) => Some(is_value(was, value)),
         None => None,
+    }
+}
+
+/// Whether a signal is a cell that shows an outcome as it stands.
+#[inline(always)]
+pub(crate) fn shows_as_cell(graph: &Graph, id: NodeId, was: &Outcome) -> bool
+    ensures { result ≡ true → IsCellAs graph.now.state.signals id was.now }
+{
+    match is_cell_as(graph, id, was) {
+        Some(same) => same,
+        None => false,
     }
 }
 

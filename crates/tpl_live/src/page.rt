@@ -166,7 +166,7 @@ impl Page {
         ensures counted { OnOk result (⟦<Shelf as Lent>⟧.counted shelf.new) }
     {
         let alloc = *notes.allocator();
-        let Some(front) = hear_all_again(graph, shelf, &self.heard, notes)? else {
+        let Some(front) = hear_all_again(graph, shelf, &self.heard, 0, notes)? else {
             return Ok(Vec::new(alloc));
         };
         let mut hearing = front;

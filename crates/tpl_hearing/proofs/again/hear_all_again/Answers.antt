@@ -1,9 +1,17 @@
-use Rattle.std.proofs.Common.{◌+◌, length, ap, take, ◌∙◌, arith}
+use Rattle.std.proofs.Common.{◌+◌, length, sym, ap, subst, take, arith}
 use Rattle.std.proofs.lemmas.List.{take_all}
+use Rattle.tpl_hearing.specs.Heard.{Outcomes}
+use Rattle.tpl_hearing.specs.Unseen.{AreCellsBetween}
 use Rattle.tpl_hearing.proofs.Names.{heard_as, then_heard}
 use Rattle.tpl_hearing.proofs.Paired.{count_paired}
-use Rattle.tpl_hearing.proofs.Stood.{heard_none, heard_some, stood_first, stood_next}
+use Rattle.tpl_hearing.proofs.Stood.{heard_none, heard_some, stand_behind, stood_first, stood_next}
 use Rattle.tpl_hearing.proofs.again.hear_all_again.Goals as goal
+
+pub standing_up_to-place-requires-clause-from : goal.standing_up_to-place-requires-clause-from
+standing_up_to-place-requires-clause-from g c =
+    let most = c.requires.cells.most in
+    let all = ap length c.lists.ensures.pairs in
+    let long = count_paired c.lists.result.0.now c.lists.result.1.now c.lists.ensures.within in omega (arith, most, all, long)
 
 pub loop-place-init : goal.loop-place-init
 loop-place-init g c =
@@ -11,8 +19,11 @@ loop-place-init g c =
     let most = s.stand.most in
     let all = ap length c.lists.ensures.pairs in
     let count = c.count-count.ensures.count in
+    let w = c.args.graph.now.state.signals in
+    let cells = subst (λ (h : Outcomes). AreCellsBetween w h 0 c.args.from) (sym c.lists.ensures.pairs) c.requires.cells in
+    let stand = stand_behind w c.args.graph.now.state.memos _ 0 c.args.from c.standing_up_to-place.result cells s.stand in
     record {
-      after = rw s.same (stood_first _ _ _ c.args.before.now c.standing_up_to-place.result c.requires.can.idle c.lists.ensures.pairs s.stand);
+      after = rw s.same (stood_first _ _ _ c.args.before.now c.standing_up_to-place.result c.requires.can.idle c.lists.ensures.pairs stand);
       can = rw s.same c.requires.can;
       counted = c.requires.counted;
       most = omega (arith, most, all, count);

@@ -1,7 +1,8 @@
 use Rattle.std.proofs.Common.{arith}
 use Rattle.std.specs.List.{zip}
+use Rattle.tpl_hearing.specs.Unseen.{IsCellAs}
 use Rattle.tpl_hearing.proofs.Paired.{count_paired}
-use Rattle.tpl_hearing.proofs.Stood.{stand_more}
+use Rattle.tpl_hearing.proofs.Stood.{each_more}
 use Rattle.tpl_hearing.proofs.again.numbers_up_to.Goals as goal
 
 pub loop-place-init : goal.loop-place-init
@@ -10,11 +11,10 @@ loop-place-init c = record { low = omega arith; each = λ i n o le lt. absurd (o
 pub loop-place-preserved : goal.loop-place-preserved
 loop-place-preserved c =
     let w = c.args.graph.now.state.signals in
-    let k = c.args.graph.now.state.memos in
     let low = c.loop-place.invariant.low in
     record {
       low = omega (arith, low);
-      each = stand_more w k (zip c.args.ids.now c.args.outcomes.now) c.args.from c.loop-place.place c.pair_at-id.result.0 c.pair_at-id.result.1.now
+      each = each_more (IsCellAs w) (zip c.args.ids.now c.args.outcomes.now) c.args.from c.loop-place.place c.pair_at-id.result.0 c.pair_at-id.result.1.now
           c.loop-place.invariant.each c.pair_at-id.ensures (c.is_number_as.ensures c.if-not-is_number_as.false);
     }
 

@@ -2,15 +2,19 @@ use Rattle.std.proofs.Common.{◌+◌, refl, subst, ◌∙◌, arith}
 use Rattle.std.specs.List.{zip}
 use Rattle.sig_graph.specs.States.{Seen}
 use Rattle.tpl_hearing.specs.HeardAgain.{StandsAs}
-use Rattle.tpl_hearing.specs.Standing.{StandBetween}
-use Rattle.tpl_hearing.proofs.Stood.{stand_on}
+use Rattle.tpl_hearing.specs.Unseen.{AreCellsBetween}
+use Rattle.tpl_hearing.proofs.Stood.{cells_stand, stand_on}
 use Rattle.tpl_hearing.proofs.again.standing_up_to.Goals as goal
 
 pub loop-place-init : goal.loop-place-init
-loop-place-init c = record { same = refl; stand = c.numbers_up_to-place.ensures }
+loop-place-init c = record {
+  same = refl;
+  stand = cells_stand c.args.graph.now.state.signals c.args.graph.now.state.memos (zip c.args.ids.now c.args.outcomes.now) c.args.from
+      c.cells_up_to-place.result c.cells_up_to-place.ensures;
+}
 
-pub numbers_up_to-next-requires-clause-from : goal.numbers_up_to-next-requires-clause-from
-numbers_up_to-next-requires-clause-from c = let low = c.loop-place-test.true in omega (arith, low)
+pub cells_up_to-next-requires-clause-from : goal.cells_up_to-next-requires-clause-from
+cells_up_to-next-requires-clause-from c = let low = c.loop-place-test.true in omega (arith, low)
 
 pub loop-place-preserved : goal.loop-place-preserved
 loop-place-preserved c =
@@ -22,13 +26,13 @@ loop-place-preserved c =
     (c.stands_as.ensures.stands c.if-not-stands_as.false) in
     record {
       same = c.stands_as.ensures.same ∙ before;
-      stand = stand_on w k ps c.args.from c.loop-place.place c.numbers_up_to-next.result c.pair_at-id.result.0 c.pair_at-id.result.1.now
+      stand = stand_on w k ps c.args.from c.loop-place.place c.cells_up_to-next.result c.pair_at-id.result.0 c.pair_at-id.result.1.now
           c.loop-place.invariant.stand c.pair_at-id.ensures one
-          (subst (λ (g : Seen). StandBetween g.state.signals g.state.memos ps (c.loop-place.place + 1) c.numbers_up_to-next.result)
-          (c.stands_as.ensures.same ∙ before) c.numbers_up_to-next.ensures);
+          (subst (λ (g : Seen). AreCellsBetween g.state.signals ps (c.loop-place.place + 1) c.cells_up_to-next.result)
+          (c.stands_as.ensures.same ∙ before) c.cells_up_to-next.ensures);
     }
 
 pub loop-place-smaller : goal.loop-place-smaller
 loop-place-smaller c =
-    let least = c.numbers_up_to-next.ensures.least in
+    let least = c.cells_up_to-next.ensures.least in
     let low = c.loop-place-test.true in omega (arith, least, low)

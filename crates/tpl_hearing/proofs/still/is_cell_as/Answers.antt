@@ -1,9 +1,9 @@
 use Rattle.std.proofs.Common.{Bool, true, ap}
 use Rattle.std.specs.Prelude.{Option, unwrap_or}
-use Rattle.tpl_hearing.proofs.Unmoved.{stands_cell}
+use Rattle.tpl_hearing.proofs.Unmoved.{cell_as}
 use Rattle.tpl_hearing.proofs.still.is_cell_as.Goals as goal
 
 pub returns-in-Some : goal.returns-in-Some
 returns-in-Some c = λ e.
-    stands_cell c.args.graph.now.state.signals c.args.graph.now.state.memos c.args.id c.in-Some.value.now c.args.was.now c.in-Some.ensures
+    cell_as c.args.graph.now.state.signals c.args.id c.in-Some.value.now c.args.was.now c.in-Some.ensures
     (c.is_value.ensures (ap (λ (x : Option Bool). unwrap_or x true) e))

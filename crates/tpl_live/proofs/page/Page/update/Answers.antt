@@ -23,6 +23,9 @@ hear_all_again-requires-clause-can g c =
     let room = c.requires.room in
     record { idle = c.requires.idle; there = c.requires.there; worn = omega (arith, worn); room = omega (arith, room) }
 
+pub hear_all_again-requires-clause-cells : goal.hear_all_again-requires-clause-cells
+hear_all_again-requires-clause-cells g c = record { least = omega arith; most = omega arith; each = λ i n o least most at. absurd (omega (arith, most)) }
+
 pub returns-in_default : goal.returns-in_default
 returns-in_default g c =
     let s = standing c.args.self.now in
