@@ -26,3 +26,5 @@ mod Lengths
 pub mod SharedEvents
 mod Preservation
 pub mod SharedCounts
+mod StillCells
+pub mod SharedCells

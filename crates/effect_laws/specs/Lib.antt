@@ -10,3 +10,4 @@ pub mod QuietFlush
 pub mod Frames
 pub mod Events
 pub mod Counts
+pub mod StillCells

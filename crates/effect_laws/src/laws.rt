@@ -1,5 +1,6 @@
 // Laws of effects, for all environments and all lists of commands.
 ghost use Rattle.effect_laws.specs.Counts.{AllKeepCounts, FlushesKeepCounts};
+ghost use Rattle.effect_laws.specs.StillCells.{AllKeepCells};
 ghost use Rattle.effect_laws.specs.Frames.{ended_all, signal_part, with_part};
 ghost use Rattle.effect_laws.specs.Asks.{BodyLaw};
 ghost use Rattle.effect_laws.specs.Ends.{ClosingLaw, EndLaw, SilenceLaw};
@@ -89,4 +90,9 @@ pub fn telling_law()
 pub fn counting_law()
     ensures acts { AllKeepCounts }
     ensures flushes { FlushesKeepCounts }
+{}
+
+/// A cell of which no change is told stands as it did, whatever is set and flushed.
+pub fn cells_law()
+    ensures { AllKeepCells }
 {}
