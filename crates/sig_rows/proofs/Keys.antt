@@ -1,9 +1,8 @@
 -- Rows and fields that are looked up.
-use Rattle.std.proofs.Common.{◌≡◌, ◌≢◌, ℕ, suc, ◌+◌, ◌<◌, Bool, true, false, not, get_or, Option, List, [], ◌∷◌, length, drop, map, refl, sym, ◌∙◌, ap, add-one, arith, inl, inr}
+use Rattle.std.proofs.Common.{◌≡◌, ◌≢◌, ℕ, zero, suc, ◌<◌, Bool, true, false, not, get_or, Option, List, [], ◌∷◌, length, map, refl, sym, ◌∙◌, ap, arith, inl, inr}
 use Rattle.std.specs.Prelude.{nat_lt, MatchOption}
 use Rattle.std.specs.List.{list_any, position, position_or_len, AllByRecursion, IsDistinct}
 use Rattle.std.specs.Str.{bytes_eq}
-use Rattle.std.proofs.Math.Seq.{drop-cons}
 use Rattle.std.proofs.lemmas.Bool.{cases_Bool, lt-ltb, ltb-true}
 use Rattle.std.proofs.lemmas.Bool.Decides.{nat_tests}
 use Rattle.std.proofs.lemmas.Map.Keys.{IsDistinct-head, IsDistinct-tail}
@@ -11,7 +10,7 @@ use Rattle.std.proofs.lemmas.Slice.Eq.{bytes_eq-Decides}
 use Rattle.sig_base.specs.declared.rows.Row.{Row}
 use Rattle.sig_base.specs.Tables.{keys_of, marked}
 use Rattle.sig_rows.specs.Edits.{has_key, row_of, without}
-use Rattle.sig_rows.specs.Found.{IsFirstPlace, IsRowOf}
+use Rattle.sig_rows.specs.Found.{IsFirstPlace, IsRowOf, IsRowPlace}
 
 -- the key of a row that has it
 pub key_is : (key : List ℕ) (r : Row) → has_key key r ≡ true → r.key ≡ key
@@ -79,29 +78,31 @@ marked_others key (x ∷ xs) = elim (cases_Bool (has_key key x)) [
   | inr e ↦ rw e (ap (λ (l : List Row). x ∷ l) (marked_others key xs))
 ]
 
--- the rows from a place on begin with the one there
-front : (rows : List Row) (i : ℕ) (x : Row) → i < length rows → x ≡ get_or rows i x → drop i rows ≡ x ∷ drop (suc i) rows
-front rows i x within is = drop-cons rows i x within ∙ ap (λ (r : Row). r ∷ drop (suc i) rows) (sym is)
+differs : (key : List ℕ) (x d : Row) (rows : List Row) (place : ℕ) → AllByRecursion (λ k. bytes_eq x.key k ≡ false) (keys_of rows) → place < length rows
+    → has_key key (get_or rows place d) ≡ true → has_key key x ≡ false
+differs key x d [] place a within has = absurd (omega arith)
+differs key x d (y ∷ ys) zero a within has = rw (key_is key y has) at a.0
+differs key x d (y ∷ ys) (suc n) a within has = differs key x d ys n a.1 (omega arith) has
 
--- what the rows from a place on say of all
-pub record Looked (key : List ℕ) (rows : List Row) (i : ℕ) : Type 0 where
-  pub distinct : IsDistinct bytes_eq (keys_of (drop i rows))
-  pub any : list_any (has_key key) rows ≡ list_any (has_key key) (drop i rows)
-  pub same : row_of key rows ≡ row_of key (drop i rows)
+-- no row before one with the key has it
+pub others_before : (key : List ℕ) (x d : Row) (xs : List Row) (n : ℕ) → IsDistinct bytes_eq (keys_of (x ∷ xs)) → n < length xs
+    → has_key key (get_or xs n d) ≡ true → has_key key x ≡ false
+others_before key x d xs n h within has = differs key x d xs n (IsDistinct-head bytes_eq x.key (keys_of xs) h) within has
 
--- the row at the place has the key
-pub found_there : (key : List ℕ) (rows : List Row) (i : ℕ) (x : Row) → i < length rows → x ≡ get_or rows i x → Looked key rows i → has_key key x ≡ true → IsRowOf key rows x
-found_there key rows i x within is l h =
-    let e = front rows i x within is in
-    let f = first_has key x (drop (suc i) rows) (rw e at l.distinct) h in
-    record { there = l.any ∙ (rw e f.there); has = h; only = l.same ∙ (rw e f.only) }
+-- a row that has the key stands at its place
+pub place_is : (key : List ℕ) (rows : List Row) (place : ℕ) (d : Row) → IsDistinct bytes_eq (keys_of rows) → place < length rows
+    → has_key key (get_or rows place d) ≡ true → position_or_len (has_key key) rows ≡ place
+place_is key [] place d h within has = absurd (omega arith)
+place_is key (x ∷ xs) zero d h within has = rw has refl
+place_is key (x ∷ xs) (suc n) d h within has =
+    let later : n < length xs = omega arith in
+    let rest = place_is key xs n d (IsDistinct-tail bytes_eq x.key (keys_of xs) h) later has in
+    rw (others_before key x d xs n h later has) (omega (arith, rest))
 
--- it hasn't
-pub not_there : (key : List ℕ) (rows : List Row) (i : ℕ) (x : Row) → i < length rows → x ≡ get_or rows i x → Looked key rows i → has_key key x ≡ false → Looked key rows (i + 1)
-not_there key rows i x within is l h =
-    let e = front rows i x within is in
-    rw add-one (record {
-      distinct = IsDistinct-tail bytes_eq x.key (keys_of (drop (suc i) rows)) (rw e at l.distinct);
-      any = l.any ∙ (rw (e, h) refl);
-      same = l.same ∙ (rw (e, h) refl);
-    })
+-- the place of a row is that of its key
+pub own_place : (rows : List Row) (place : ℕ) (d : Row) → IsDistinct bytes_eq (keys_of rows) → place < length rows
+    → IsRowPlace (get_or rows place d).key rows place
+own_place rows place d h within =
+    let key = (get_or rows place d).key in
+    let is = place_is key rows place d h within ((bytes_eq-Decides key key).1 refl) in
+    record { there = any_below (has_key key) rows ∙ (rw is (lt-ltb place (length rows) within)); within = within; is = sym is }

@@ -1,6 +1,6 @@
 -- What a move and a new scalar change, and where they change nothing.
-use Rattle.std.proofs.Common.{◌≡◌, ℕ, zero, suc, ◌+◌, ◌<◌, true, false, not, get_or, List, [], ◌∷◌, ◌++◌, length, take, drop, set, refl, sym, ap, subst, ◌∙◌, arith, inl, inr, append_assoc}
-use Rattle.std.specs.List.{AllByRecursion, IsDistinct, position_or_len}
+use Rattle.std.proofs.Common.{◌≡◌, ℕ, zero, suc, ◌+◌, ◌<◌, true, not, get_or, List, [], ◌∷◌, ◌++◌, length, take, drop, set, refl, sym, ap, subst, ◌∙◌, arith, inl, inr, append_assoc}
+use Rattle.std.specs.List.{IsDistinct, position_or_len}
 use Rattle.std.specs.List.Sorted.{IsPermutation}
 use Rattle.std.specs.Str.{bytes_eq}
 use Rattle.std.proofs.Math.Seq.{get_or-append_seam}
@@ -12,9 +12,9 @@ use Rattle.std.proofs.lemmas.Map.Keys.{IsDistinct-head, IsDistinct-tail}
 use Rattle.sig_base.specs.declared.rows.Row.{Row}
 use Rattle.sig_base.specs.declared.scalar.Scalar.{Scalar}
 use Rattle.sig_base.specs.Tables.{AreRows, keys_of}
-use Rattle.sig_rows.specs.Edits.{changed, has_key, moved, row_of, with_row, with_value, without}
+use Rattle.sig_rows.specs.Edits.{changed, cut, has_key, moved, row_of, with_row, with_value, without}
 use Rattle.sig_rows.specs.Found.{IsRowOf}
-use Rattle.sig_rows.proofs.Keys.{key_is, none_more}
+use Rattle.sig_rows.proofs.Keys.{key_is, none_more, others_before}
 use Rattle.sig_rows.proofs.Kept.{reordered}
 
 -- the others are one fewer
@@ -55,12 +55,23 @@ stays key (x ∷ xs) zero d h within has =
     rw (has, rest.0, rest.1) refl
 stays key (x ∷ xs) (suc n) d h within has =
     let later : n < length xs = omega arith in
-    let other : has_key key x ≡ false = differs xs n (IsDistinct-head bytes_eq x.key (keys_of xs) h) later has in
-    rw other (ap (λ (l : List Row). x ∷ l) (stays key xs n d (IsDistinct-tail bytes_eq x.key (keys_of xs) h) later has)) where
-      differs : (ys : List Row) (m : ℕ) → AllByRecursion (λ k. bytes_eq x.key k ≡ false) (keys_of ys) → m < length ys → has_key key (get_or ys m d) ≡ true → has_key key x ≡ false
-      differs [] m a w f = absurd (omega arith)
-      differs (y ∷ ys) zero a w f = rw (key_is key y f) at a.0
-      differs (y ∷ ys) (suc m) a w f = differs ys m a.1 (omega arith) f
+    rw (others_before key x d xs n h later has) (ap (λ (l : List Row). x ∷ l) (stays key xs n d (IsDistinct-tail bytes_eq x.key (keys_of xs) h) later has))
+
+-- the rows without the one at the place of a key
+pub cut_there : (key : List ℕ) (rows : List Row) → IsDistinct bytes_eq (keys_of rows) → position_or_len (has_key key) rows < length rows
+    → without key rows ≡ cut (position_or_len (has_key key) rows) rows
+cut_there key [] h within = absurd (omega arith)
+cut_there key (x ∷ xs) h within = elim (cases_Bool (has_key key x)) [
+  | inl e ↦
+      let same = key_is key x e in
+      let rest = none_more key xs (rw same at (IsDistinct-head bytes_eq x.key (keys_of xs) h)) in
+      rw (e, rest.1) refl
+  | inr e ↦
+      let n = position_or_len (has_key key) xs in
+      let behind : position_or_len (has_key key) (x ∷ xs) ≡ suc n = rw e (omega arith) in
+      let f = cut_there key xs (IsDistinct-tail bytes_eq x.key (keys_of xs) h) (omega (arith, behind)) in
+      rw (behind, e) (ap (λ (l : List Row). x ∷ l) f)
+]
 
 -- what was put at a place stands there
 pub stands : (key : List ℕ) (rows : List Row) (row d : Row) (place : ℕ) → IsRowOf key rows row → place < length rows → has_key key (get_or (moved key place rows) place d) ≡ true

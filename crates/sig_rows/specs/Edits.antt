@@ -1,5 +1,5 @@
 -- What edits make of rows.
-use Rattle.std.specs.Prelude.{ℕ, Bool, not, List, ◌∷◌, ◌++◌, map, take, drop, slice_set, if◌then◌else◌}
+use Rattle.std.specs.Prelude.{ℕ, suc, Bool, not, List, ◌∷◌, ◌++◌, map, take, drop, slice_set, if◌then◌else◌}
 use Rattle.std.specs.List.{filter, position_or_len}
 use Rattle.std.specs.Str.{bytes_eq}
 use Rattle.sig_base.specs.declared.rows.Row.{Row}
@@ -16,6 +16,10 @@ row_of key rows = filter (has_key key) rows
 -- the rows without the one with a key
 abbrev pub without : List ℕ → List Row → List Row
 without key rows = filter (λ r. not (has_key key r)) rows
+
+-- the rows without the one at a place
+abbrev pub cut : ℕ → List Row → List Row
+cut place rows = take place rows ++ drop (suc place) rows
 
 -- the rows with one more, which stands at a place
 abbrev pub with_row : ℕ → Row → List Row → List Row

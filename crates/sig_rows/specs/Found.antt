@@ -1,8 +1,9 @@
--- What was looked up in rows.
-use Rattle.std.specs.Prelude.{◌≡◌, ℕ, ◌<◌, Bool, true, List, [], ◌∷◌, length}
+-- What was looked up in rows, and what an edit made of them.
+use Rattle.std.specs.Prelude.{◌≡◌, ℕ, ◌<◌, Bool, true, List, [], ◌∷◌, length, Option, MatchOption}
 use Rattle.std.specs.List.{list_any, position_or_len}
 use Rattle.std.specs.Str.{bytes_eq}
 use Rattle.sig_base.specs.declared.rows.Row.{Row}
+use Rattle.sig_base.specs.Tables.{Table}
 use Rattle.sig_rows.specs.Edits.{has_key, row_of}
 
 -- the row is the one with the key
@@ -24,3 +25,12 @@ IsFieldPlace name fields = IsFirstPlace (λ f. bytes_eq f name) fields
 -- the place is that of the row with the key
 abbrev pub IsRowPlace : List ℕ → List Row → ℕ → Type 0
 IsRowPlace key rows = IsFirstPlace (has_key key) rows
+
+-- the table stands with these rows in place of its own, which were others
+pub record IsChanged (t : Table) (rows : List Row) (now : Table) : Type 0 where
+  pub is : now ≡ record { fields = t.fields; rows = rows }
+  pub others : rows ≡ t.rows → ⊥
+
+-- what an edit made that leaves these rows: nothing where they are the table's own
+abbrev pub IsMade : Table → List Row → Option Table → Type 0
+IsMade t rows made = MatchOption made (rows ≡ t.rows) (IsChanged t rows)

@@ -1,13 +1,14 @@
 // The edits.
-ghost use Rattle.std.specs.Prelude.{◌≡◌, ◌↔◌, ◌≤◌, ◌<◌, [], length, IfErr, IfOk, OnErr, OnOk, None, false};
+ghost use Rattle.std.specs.Prelude.{◌≡◌, ◌↔◌, [], length, IfErr, IfOk, OnErr, OnOk, None, false};
 ghost use Rattle.sig_base.specs.Tables.{AreRows};
-ghost use Rattle.sig_rows.specs.Edits.{changed, field_place, has_key, moved, with_row, without};
+ghost use Rattle.sig_rows.specs.Edits.{changed, field_place, moved, with_row, without};
 ghost use Rattle.sig_rows.specs.Faults.{insert_fault, move_fault, put_fault, remove_fault, IsCause};
 
 use crate::RowFault;
-use crate::refusals::{insert_fault, remove_fault};
-use crate::row::{changed, copies, field_place, others, row_of, row_place, scalars};
-use sig_base::{Name, NoMemory, Row, Rows, Scalar, Scalars, Text};
+use crate::made::{inserted, moved_from, put_at, without};
+use crate::refusals::insert_fault;
+use crate::row::{field_place, row_place};
+use sig_base::{Name, NoMemory, Rows, Scalar, Text};
 use std::alloc::Global;
 
 /// No rows, for at most `MOST_FIELDS` distinct fields other than `key`.
@@ -16,19 +17,6 @@ pub fn new_rows(alloc: Global, fields: Vec<Name>) -> Result<Rows, NoMemory>
     ensures { IfOk result (λ r. r ≡ record { fields = fields.items; rows = [] }) }
 {
     Rows::of(alloc, fields, Vec::new(alloc))
-}
-
-// The rows with one more, which stands at a place.
-fn with_row(alloc: Global, rows: &Rows, place: usize, row: Row) -> Result<Rows, NoMemory>
-    requires within { place ≤ length rows.now.rows }
-    requires rows { AreRows rows.now.fields (with_row place row rows.now.rows) }
-    ensures { IfOk result (λ r. r ≡ record { fields = rows.now.fields; rows = with_row place row rows.now.rows }) }
-{
-    let mut list = copies(alloc, rows.rows())?;
-    list.insert(place, row)?;
-    let mut now = rows.with_rows(alloc, list)?;
-    now.note_changed(place);
-    Ok(now)
 }
 
 /// Puts a row with these values so that it stands at a place, at most the number of rows. It is refused, in this order, where
@@ -52,21 +40,8 @@ pub fn insert(
     if let Some(fault) = insert_fault(rows, place, key, values.len()) {
         return Err(fault);
     }
-    let _sound = rows.rows();
-    let row = Row {
-        key: key.copy()?,
-        values: Scalars::of(alloc, scalars(alloc, values)?)?,
-    };
-    *rows = with_row(alloc, rows, place, row)?;
+    *rows = inserted(alloc, rows, place, key, values)?;
     Ok(())
-}
-
-// The rows without the one with this key.
-fn without(alloc: Global, rows: &Rows, key: &Text) -> Result<Rows, NoMemory>
-    ensures { IfOk result (λ r. r ≡ record { fields = rows.now.fields; rows = without key.now rows.now.rows }) }
-{
-    let list = others(alloc, rows.rows(), key)?;
-    rows.with_rows(alloc, list)
 }
 
 /// Takes the row with this key out; refused where no row has it.
@@ -76,10 +51,10 @@ pub fn remove(alloc: Global, rows: &mut Rows, key: &Text) -> Result<(), RowFault
     ensures refused { IfErr result (λ why. IsCause (remove_fault rows.old key.now) why) }
     ensures kept { OnErr result (rows.new ≡ rows.old) }
 {
-    if let Some(fault) = remove_fault(rows, key) {
-        return Err(fault);
-    }
-    *rows = without(alloc, rows, key)?;
+    let Some(place) = row_place(rows.rows(), key) else {
+        return Err(RowFault::KeyMissing);
+    };
+    *rows = without(alloc, rows, place)?;
     Ok(())
 }
 
@@ -92,18 +67,16 @@ pub fn move_to(alloc: Global, rows: &mut Rows, key: &Text, place: usize) -> Resu
     ensures refused { IfErr result (λ why. IsCause (move_fault rows.old key.now place) why) }
     ensures kept { OnErr result (rows.new ≡ rows.old) }
 {
-    let Some(row) = row_of(rows.rows(), key) else {
+    let Some(from) = row_place(rows.rows(), key) else {
         return Err(RowFault::KeyMissing);
     };
     if place >= rows.len() {
         return Err(RowFault::Place);
     }
-    if rows.row(place).key == *key {
+    let Some(now) = moved_from(alloc, rows, from, place)? else {
         return Ok(false);
-    }
-    let row = row.copy()?;
-    let others = without(alloc, rows, key)?;
-    *rows = with_row(alloc, &others, place, row)?;
+    };
+    *rows = now;
     Ok(true)
 }
 
@@ -131,12 +104,9 @@ pub fn put_field(
     let Some(at) = field_place(rows.fields(), field) else {
         return Err(RowFault::Field);
     };
-    if rows.row(place).values.as_slice()[at] == *value {
+    let Some(now) = put_at(alloc, rows, place, at, value)? else {
         return Ok(false); // it is there already
-    }
-    let list = changed(alloc, rows.rows(), place, at, value)?;
-    let mut now = rows.with_rows(alloc, list)?;
-    now.note_changed(place);
+    };
     *rows = now;
     Ok(true)
 }

@@ -1,11 +1,10 @@
 // Rows and their parts, looked up and copied.
-ghost use Rattle.std.specs.Prelude.{◌≡◌, ◌<◌, length, All, IfOk, MatchOption, Some, false, true, slice_set};
-ghost use Rattle.std.specs.List.{list_any, position, slice_get, IsDistinct};
+ghost use Rattle.std.specs.Prelude.{◌≡◌, ◌<◌, ◌++◌, length, All, IfOk, OnOk, MatchOption, Some, false, true, slice_set};
+ghost use Rattle.std.specs.List.{list_any, position, slice_get};
 ghost use Rattle.std.specs.Str.{bytes_eq};
-ghost use Rattle.sig_base.specs.Tables.{keys_of};
 ghost use Rattle.sig_base.specs.declared.rows.Row.{Row as ARow};
-ghost use Rattle.sig_rows.specs.Edits.{has_key, with_value, without};
-ghost use Rattle.sig_rows.specs.Found.{IsFieldPlace, IsRowOf, IsRowPlace};
+ghost use Rattle.sig_rows.specs.Edits.{cut, has_key, with_value};
+ghost use Rattle.sig_rows.specs.Found.{IsFieldPlace, IsRowPlace};
 
 use sig_base::{Name, NoMemory, Row, Scalar, Scalars, Text};
 use std::alloc::Global;
@@ -51,19 +50,6 @@ pub fn has_field(fields: &[Name], name: &Name) -> bool
     fields.iter().any(|field| field == name)
 }
 
-/// The row with this key.
-pub fn row_of<'a>(rows: &'a [Row], key: &Text) -> Option<&'a Row>
-    requires { IsDistinct bytes_eq (keys_of rows.now) }
-    ensures { MatchOption result (list_any (has_key key.now) rows.now ≡ false) (λ row. IsRowOf key.now rows.now row.now) }
-{
-    for row in rows {
-        if is_key(row, key) {
-            return Some(row);
-        }
-    }
-    None
-}
-
 // The first place of a row with this key.
 fn first_row(rows: &[Row], key: &Text) -> Option<usize>
     ensures { result ≡ position (has_key key.now) rows.now }
@@ -77,6 +63,17 @@ pub fn row_place(rows: &[Row], key: &Text) -> Option<usize>
 {
     let found = first_row(rows, key);
     found
+}
+
+/// The place of the row with this key, where there is one.
+pub fn place_of(rows: &[Row], key: &Text) -> usize
+    requires { list_any (has_key key.now) rows.now ≡ true }
+    ensures { IsRowPlace key.now rows.now result }
+{
+    let Some(place) = row_place(rows, key) else {
+        unreachable!()
+    };
+    place
 }
 
 // The first place of this name.
@@ -94,17 +91,14 @@ pub fn field_place(fields: &[Name], name: &Name) -> Option<usize>
     found
 }
 
-/// Copies of the rows that have another key, which share their values.
-pub fn others(alloc: Global, rows: &[Row], key: &Text) -> Result<Vec<Row>, NoMemory>
-    ensures { IfOk result (λ v. v.items ≡ without key.now rows.now) }
+// Puts copies of these rows, which share their values, behind others.
+fn push_copies(out: &mut Vec<Row>, rows: &[Row]) -> Result<(), NoMemory>
+    ensures { OnOk result (out.new.items ≡ out.old.items ++ rows.now) }
 {
-    let mut out = Vec::with_capacity(alloc, rows.len())?;
     for row in rows {
-        if !is_key(row, key) {
-            out.push(row.copy()?)?;
-        }
+        out.push(row.copy()?)?;
     }
-    Ok(out)
+    Ok(())
 }
 
 /// Copies of these rows, which share their values, with room for one more.
@@ -112,9 +106,18 @@ pub fn copies(alloc: Global, rows: &[Row]) -> Result<Vec<Row>, NoMemory>
     ensures { IfOk result (λ v. v.items ≡ rows.now) }
 {
     let mut out = Vec::with_capacity(alloc, rows.len().saturating_add(1))?;
-    for row in rows {
-        out.push(row.copy()?)?;
-    }
+    push_copies(&mut out, rows)?;
+    Ok(out)
+}
+
+/// Copies of the rows but the one at a place, with room for one more.
+pub fn others(alloc: Global, rows: &[Row], place: usize) -> Result<Vec<Row>, NoMemory>
+    requires { place < length rows.now }
+    ensures { IfOk result (λ v. v.items ≡ cut place rows.now) }
+{
+    let mut out = Vec::with_capacity(alloc, rows.len())?;
+    push_copies(&mut out, rows.split_at(place).0)?;
+    push_copies(&mut out, rows.split_at(place + 1).1)?;
     Ok(out)
 }
 
