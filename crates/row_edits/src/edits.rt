@@ -1,5 +1,5 @@
 // Edits of rows, and why they are refused.
-ghost use Rattle.std.specs.Prelude.{◌≡◌, IfOk, OnOk, None};
+ghost use Rattle.std.specs.Prelude.{◌≡◌, IfOk, None};
 ghost use Rattle.live_model.specs.Rows.{edit_fault, edit_refusal, edited};
 
 use crate::refusals::fault_told;
@@ -7,29 +7,10 @@ use live_cmd::RowEdit;
 use live_entries::Refusal;
 use sig_base::{NoMemory, Rows};
 use sig_rows::{
-    RowFault, insert, insert_fault, move_fault, move_to, put_fault, put_field, remove, remove_fault,
+    RowFault, field_put, insert_fault, inserted, move_fault, moved, put_fault, remove_fault,
+    removed,
 };
 use std::alloc::Global;
-
-// Edits these rows, where it isn't refused.
-fn edit_rows(alloc: Global, rows: &mut Rows, edit: &RowEdit) -> Result<(), RowFault>
-    ensures { OnOk result (rows.new ≡ edited edit.now rows.old) }
-{
-    match edit {
-        RowEdit::Insert { place, key, values } => {
-            insert(alloc, rows, *place as usize, key, values.as_slice())
-        }
-        RowEdit::Remove(key) => remove(alloc, rows, key),
-        RowEdit::Move(key, place) => match move_to(alloc, rows, key, *place as usize) {
-            Ok(_) => Ok(()),
-            Err(fault) => Err(fault),
-        },
-        RowEdit::Put { key, field, value } => match put_field(alloc, rows, key, field, value) {
-            Ok(_) => Ok(()),
-            Err(fault) => Err(fault),
-        },
-    }
-}
 
 // Why these rows don't allow an edit, the first cause.
 fn edit_fault(rows: &Rows, edit: &RowEdit) -> Option<RowFault>
@@ -70,9 +51,22 @@ pub fn edited(alloc: Global, rows: &Rows, edit: &RowEdit) -> Result<Rows, NoMemo
     requires { edit_refusal edit.now rows.now ≡ None }
     ensures { IfOk result (λ t. t ≡ edited edit.now rows.now) }
 {
-    let mut now = rows.copy()?;
-    match edit_rows(alloc, &mut now, edit) {
-        Ok(()) => Ok(now),
-        Err(_) => Err(NoMemory), // nothing else is wrong with an edit that isn't refused
+    match edit {
+        RowEdit::Insert { place, key, values } => {
+            let now = inserted(alloc, rows, *place as usize, key, values.as_slice())?;
+            Ok(now)
+        }
+        RowEdit::Remove(key) => {
+            let now = removed(alloc, rows, key)?;
+            Ok(now)
+        }
+        RowEdit::Move(key, place) => {
+            let now = moved(alloc, rows, key, *place as usize)?;
+            Ok(now)
+        }
+        RowEdit::Put { key, field, value } => {
+            let now = field_put(alloc, rows, key, field, value)?;
+            Ok(now)
+        }
     }
 }
