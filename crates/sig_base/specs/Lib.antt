@@ -1,3 +1,5 @@
+pub mod Characters
+pub mod Placed
 pub mod Printer
 pub mod Scalars
 pub mod Tables

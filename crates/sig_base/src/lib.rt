@@ -1,6 +1,7 @@
 //! Values, names and numbers of things, and the two errors that every layer speaks of.
 #![tactic(auto)]
 
+mod chars;
 mod count;
 mod errors;
 mod ids;

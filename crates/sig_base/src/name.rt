@@ -7,12 +7,11 @@ ghost use Rattle.std.proofs.Common.{rules};
 ghost use Rattle.sig_base.specs.declared.name.NameFault.TheVariants as fault;
 ghost use Rattle.sig_base.specs.Words.{is_name};
 
-use crate::same::same_bytes;
+use crate::chars::Chars;
 use crate::{NoMemory, is_name};
 use std::alloc::{AllocError, Global};
 use std::hash::{Hash, Hasher};
 use std::marker::Model;
-use std::rc::RcStr;
 use thiserror::Error;
 
 /// Why there is no such name.
@@ -32,27 +31,28 @@ impl From<AllocError> for NameFault {
     }
 }
 
-/// A name of a script. Its copies share the bytes.
+/// A name of a script. A short one stands in place; the copies of a longer one share its bytes.
 pub struct Name {
-    shared: RcStr,
+    chars: Chars,
 }
 
 impl Drop for Name {
+    #[inline]
     fn drop(self) {
-        let Name { shared: _ } = self;
+        let Name { chars: _ } = self;
     }
 }
 
 impl Model for Name {
     ghost use Rattle.std.specs.Prelude.{◌≡◌, List, ℕ, true};
-    ghost use Rattle.std.specs.Rc.{rc_str_bytes};
+    ghost use Rattle.sig_base.specs.Characters.{bytes_of};
     ghost use Rattle.sig_base.specs.Words.{is_name};
 
     ghost Value = { List ℕ };
 
-    ghost view = { λ n. rc_str_bytes n.shared };
+    ghost view = { λ n. bytes_of n.chars };
 
-    ghost invariant = { λ n. is_name (rc_str_bytes n.shared) ≡ true };
+    ghost invariant = { λ n. is_name (bytes_of n.chars) ≡ true };
 }
 
 impl Name {
@@ -77,7 +77,7 @@ impl Name {
         ensures { IfOk result (λ n. n ≡ text.now) }
     {
         Ok(Name {
-            shared: RcStr::from_str(alloc, text)?,
+            chars: Chars::of(alloc, text)?,
         })
     }
 
@@ -86,22 +86,24 @@ impl Name {
         ensures count { result ≡ length self.now }
         ensures good { is_name self.now ≡ true }
     {
-        self.shared.as_str().len()
+        self.chars.as_str().len()
     }
 
     /// Its characters.
+    #[inline(always)]
     pub fn as_str(&self) -> &str
         ensures { result.now ≡ self.now }
     {
-        self.shared.as_str()
+        self.chars.as_str()
     }
 
-    /// The same name, which shares the bytes.
+    /// The same name, which shares the bytes of a long one.
+    #[inline(always)]
     pub fn copy(&self) -> Result<Name, NoMemory>
         ensures { IfOk result (λ n. n ≡ self.now) }
     {
         Ok(Name {
-            shared: self.shared.clone()?,
+            chars: self.chars.copy()?,
         })
     }
 }
@@ -111,8 +113,9 @@ impl PartialEq for Name {
 
     ghost laws = { Prim.search (comparing, rules) };
 
+    #[inline(always)]
     fn eq(&self, other: &Name) -> bool {
-        same_bytes(self.as_str().as_bytes(), other.as_str().as_bytes())
+        self.chars.same(&other.chars)
     }
 }
 
@@ -126,6 +129,6 @@ impl Hash for Name {
     ghost respects_eq = { Prim.search (hashing, rules) };
 
     fn hash<H: Hasher>(&self, state: &mut H) {
-        self.shared.hash(state);
+        self.as_str().hash(state);
     }
 }

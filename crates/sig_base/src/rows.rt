@@ -71,7 +71,8 @@ impl Drop for Row {
 }
 
 impl Row {
-    /// The same row, which shares its key and its values.
+    /// The same row, which shares its values, and its key where that is long.
+    #[inline(always)]
     pub fn copy(&self) -> Result<Row, NoMemory>
         ensures { IfOk result (λ r. r ≡ self.now) }
     {

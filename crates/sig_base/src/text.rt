@@ -6,12 +6,11 @@ ghost use Rattle.std.specs.Cmp.Rules.{comparing, hashing};
 ghost use Rattle.std.proofs.Common.{rules};
 ghost use Rattle.sig_base.specs.declared.text.TextFault.TheVariants as fault;
 
-use crate::same::same_bytes;
+use crate::chars::Chars;
 use crate::{MOST_TEXT, NoMemory};
 use std::alloc::{AllocError, Global};
 use std::hash::{Hash, Hasher};
 use std::marker::Model;
-use std::rc::RcStr;
 use thiserror::Error;
 
 /// Why there is no such text.
@@ -31,27 +30,28 @@ impl From<AllocError> for TextFault {
     }
 }
 
-/// A text of at most `MOST_TEXT` bytes of UTF-8. Its copies share them.
+/// A text of at most `MOST_TEXT` bytes of UTF-8. A few stand in place; the copies of a longer one share its bytes.
 pub struct Text {
-    shared: RcStr,
+    chars: Chars,
 }
 
 impl Drop for Text {
+    #[inline]
     fn drop(self) {
-        let Text { shared: _ } = self;
+        let Text { chars: _ } = self;
     }
 }
 
 impl Model for Text {
     ghost use Rattle.std.specs.Prelude.{List, ℕ, ◌≤◌, length};
-    ghost use Rattle.std.specs.Rc.{rc_str_bytes};
+    ghost use Rattle.sig_base.specs.Characters.{bytes_of};
     ghost use Rattle.sig_base.specs.declared.limits.TheConstants.{MOST_TEXT};
 
     ghost Value = { List ℕ };
 
-    ghost view = { λ t. rc_str_bytes t.shared };
+    ghost view = { λ t. bytes_of t.chars };
 
-    ghost invariant = { λ t. length (rc_str_bytes t.shared) ≤ MOST_TEXT };
+    ghost invariant = { λ t. length (bytes_of t.chars) ≤ MOST_TEXT };
 }
 
 impl Text {
@@ -65,7 +65,7 @@ impl Text {
             return Err(TextFault::Long);
         }
         Ok(Text {
-            shared: RcStr::from_str(alloc, text)?,
+            chars: Chars::of(alloc, text)?,
         })
     }
 
@@ -74,22 +74,24 @@ impl Text {
         ensures count { result ≡ length self.now }
         ensures short { length self.now ≤ MOST_TEXT }
     {
-        self.shared.as_str().len()
+        self.chars.as_str().len()
     }
 
     /// Its characters.
+    #[inline(always)]
     pub fn as_str(&self) -> &str
         ensures { result.now ≡ self.now }
     {
-        self.shared.as_str()
+        self.chars.as_str()
     }
 
-    /// The same text, which shares the bytes.
+    /// The same text, which shares the bytes of a long one.
+    #[inline(always)]
     pub fn copy(&self) -> Result<Text, NoMemory>
         ensures { IfOk result (λ t. t ≡ self.now) }
     {
         Ok(Text {
-            shared: self.shared.clone()?,
+            chars: self.chars.copy()?,
         })
     }
 }
@@ -99,8 +101,9 @@ impl PartialEq for Text {
 
     ghost laws = { Prim.search (comparing, rules) };
 
+    #[inline(always)]
     fn eq(&self, other: &Text) -> bool {
-        same_bytes(self.as_str().as_bytes(), other.as_str().as_bytes())
+        self.chars.same(&other.chars)
     }
 }
 
@@ -114,6 +117,6 @@ impl Hash for Text {
     ghost respects_eq = { Prim.search (hashing, rules) };
 
     fn hash<H: Hasher>(&self, state: &mut H) {
-        self.shared.hash(state);
+        self.as_str().hash(state);
     }
 }
