@@ -1,8 +1,13 @@
 -- Few bytes in an array whose last one says how many they are.
-use Rattle.std.proofs.Common.{◌≡◌, ℕ, ◌+◌, ◌-◌, ◌≤◌, List, [], ◌∷◌, ◌++◌, get_or, set, length, take, drop, replicate, refl, sym, ap, ◌∙◌, subst, arith, IsUtf8}
+use Rattle.std.proofs.Common.{◌≡◌, ℕ, ◌+◌, ◌-◌, ◌≤◌, List, [], ◌∷◌, ◌++◌, get_or, set, length, take, drop, replicate, refl, sym, ap, ◌∙◌, subst, arith, true, false, IsUtf8}
+use Rattle.std.specs.Prelude.{nat_le, nat_lt}
+use Rattle.std.specs.Str.{bytes_eq}
+use Rattle.std.proofs.lemmas.Bool.{leb-true, ltb-true}
 use Rattle.std.proofs.lemmas.List.{drop-replicate, get_or-append_right, get_or_at, length-replicate, replicate_more, set-append_right, set_at, take_at}
 use Rattle.std.proofs.Math.Seq.{paste}
 use Rattle.std.proofs.lemmas.List.Edits.{paste_all}
+use Rattle.sig_base.proofs.Lengths.{unlike}
+use Rattle.sig_base.specs.declared.chars.TheConstants.{FEW}
 use Rattle.sig_base.specs.Placed.{IsPlaced, padded, placed}
 
 -- so many zeros
@@ -62,3 +67,11 @@ counted_all last text array n h is from =
 -- arrays in which the same bytes stand are the same
 pub same_whole : (last : ℕ) (a b : List ℕ) → IsPlaced last a → IsPlaced last b → placed last a ≡ placed last b → a ≡ b
 same_whole last a b h k e = h.whole ∙ (ap (padded last) e ∙ sym k.whole)
+
+-- few bytes are none that are too many to stand in place
+pub few_other : (few others : List ℕ) → nat_le (length few) FEW ≡ true → nat_lt FEW (length others) ≡ true → bytes_eq few others ≡ false
+few_other few others h k = unlike few others (λ e. absurd (omega (arith, e, leb-true (length few) FEW h, ltb-true FEW (length others) k)))
+
+-- nor are those few
+pub other_few : (few others : List ℕ) → nat_le (length few) FEW ≡ true → nat_lt FEW (length others) ≡ true → bytes_eq others few ≡ false
+other_few few others h k = unlike others few (λ e. absurd (omega (arith, e, leb-true (length few) FEW h, ltb-true FEW (length others) k)))

@@ -1,8 +1,9 @@
 // Characters, which stand in place where they are few, and are shared otherwise.
 ghost use Rattle.std.specs.Prelude.{◌≡◌, ◌≤◌, true, false, length, IfOk};
 ghost use Rattle.std.specs.Int.{to_le_bytes, w64};
+ghost use Rattle.std.specs.Rc.{rc_str_bytes};
 ghost use Rattle.std.specs.Str.{bytes_eq};
-ghost use Rattle.sig_base.specs.Characters.{bytes_of};
+ghost use Rattle.sig_base.specs.Characters.{bytes_of, few_in_place};
 ghost use Rattle.sig_base.specs.Placed.{padded};
 ghost use Rattle.sig_base.specs.declared.chars.TheConstants.{FEW};
 
@@ -120,20 +121,33 @@ pub(crate) enum Chars {
     Shared(RcStr),
 }
 
+// Lets go of shared characters. It is a call, so that what drops few characters is no more than a test.
+#[inline(never)]
+fn let_go(_: RcStr) {}
+
 impl Drop for Chars {
     #[inline(always)]
     fn drop(self) {
         match self {
             Chars::Few(_) => {}
-            Chars::Shared(_) => {}
+            Chars::Shared(shared) => let_go(shared),
         }
     }
+}
+
+// Whether shared characters are the same. It is a call, so that what compares few characters is short.
+#[inline(never)]
+fn same_shared(one: &RcStr, other: &RcStr) -> bool
+    ensures { result ≡ bytes_eq (rc_str_bytes one.now) (rc_str_bytes other.now) }
+{
+    same_bytes(one.as_str().as_bytes(), other.as_str().as_bytes())
 }
 
 impl Chars {
     // These characters.
     pub(crate) fn of(alloc: Global, text: &str) -> Result<Chars, AllocError>
-        ensures { IfOk result (λ c. bytes_of c ≡ text.now) }
+        ensures bytes { IfOk result (λ c. bytes_of c ≡ text.now) }
+        ensures place { IfOk result (λ c. few_in_place c ≡ true) }
     {
         if text.len() <= FEW {
             return Ok(Chars::Few(Few::of(text)));
@@ -155,7 +169,8 @@ impl Chars {
     // The same characters.
     #[inline(always)]
     pub(crate) fn copy(&self) -> Result<Chars, AllocError>
-        ensures { IfOk result (λ c. bytes_of c ≡ bytes_of self.now) }
+        ensures bytes { IfOk result (λ c. bytes_of c ≡ bytes_of self.now) }
+        ensures place { IfOk result (λ c. few_in_place c ≡ few_in_place self.now) }
     {
         match self {
             Chars::Few(few) => Ok(Chars::Few(few.copy())),
@@ -163,21 +178,23 @@ impl Chars {
         }
     }
 
-    // Whether the characters are the same.
+    // Whether the characters are the same. Those in place are told from those that are shared by where they stand.
     #[inline(always)]
+    #[tactic(auto, using(crate::proofs::Placing::few_other, crate::proofs::Placing::other_few))]
     pub(crate) fn same(&self, other: &Chars) -> bool
+        requires self_in_place { few_in_place self.now ≡ true }
+        requires other_in_place { few_in_place other.now ≡ true }
         ensures { result ≡ bytes_eq (bytes_of self.now) (bytes_of other.now) }
     {
-        match (self, other) {
-            (Chars::Few(one), Chars::Few(two)) => one.same(two),
-            _ => self.same_shared(other),
+        match self {
+            Chars::Few(one) => match other {
+                Chars::Few(two) => one.same(two),
+                Chars::Shared(_) => false,
+            },
+            Chars::Shared(one) => match other {
+                Chars::Few(_) => false,
+                Chars::Shared(two) => same_shared(one, two),
+            },
         }
-    }
-
-    // The same, told by the bytes.
-    fn same_shared(&self, other: &Chars) -> bool
-        ensures { result ≡ bytes_eq (bytes_of self.now) (bytes_of other.now) }
-    {
-        same_bytes(self.as_str().as_bytes(), other.as_str().as_bytes())
     }
 }

@@ -37,7 +37,7 @@ pub struct Name {
 }
 
 impl Drop for Name {
-    #[inline]
+    #[inline(always)]
     fn drop(self) {
         let Name { chars: _ } = self;
     }
@@ -45,14 +45,14 @@ impl Drop for Name {
 
 impl Model for Name {
     ghost use Rattle.std.specs.Prelude.{◌≡◌, List, ℕ, true};
-    ghost use Rattle.sig_base.specs.Characters.{bytes_of};
+    ghost use Rattle.sig_base.specs.Characters.{bytes_of, few_in_place};
     ghost use Rattle.sig_base.specs.Words.{is_name};
 
     ghost Value = { List ℕ };
 
     ghost view = { λ n. bytes_of n.chars };
 
-    ghost invariant = { λ n. is_name (bytes_of n.chars) ≡ true };
+    ghost invariant = { λ n. (is_name (bytes_of n.chars) ≡ true) × (few_in_place n.chars ≡ true) };
 }
 
 impl Name {
@@ -82,6 +82,7 @@ impl Name {
     }
 
     /// How many bytes it has.
+    #[inline(always)]
     pub fn len(&self) -> usize
         ensures count { result ≡ length self.now }
         ensures good { is_name self.now ≡ true }

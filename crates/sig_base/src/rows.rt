@@ -65,6 +65,7 @@ pub struct Row {
 }
 
 impl Drop for Row {
+    #[inline(always)]
     fn drop(self) {
         let Row { key: _, values: _ } = self;
     }

@@ -36,22 +36,22 @@ pub struct Text {
 }
 
 impl Drop for Text {
-    #[inline]
+    #[inline(always)]
     fn drop(self) {
         let Text { chars: _ } = self;
     }
 }
 
 impl Model for Text {
-    ghost use Rattle.std.specs.Prelude.{List, ℕ, ◌≤◌, length};
-    ghost use Rattle.sig_base.specs.Characters.{bytes_of};
+    ghost use Rattle.std.specs.Prelude.{◌≡◌, List, ℕ, ◌≤◌, length, true};
+    ghost use Rattle.sig_base.specs.Characters.{bytes_of, few_in_place};
     ghost use Rattle.sig_base.specs.declared.limits.TheConstants.{MOST_TEXT};
 
     ghost Value = { List ℕ };
 
     ghost view = { λ t. bytes_of t.chars };
 
-    ghost invariant = { λ t. length (bytes_of t.chars) ≤ MOST_TEXT };
+    ghost invariant = { λ t. (length (bytes_of t.chars) ≤ MOST_TEXT) × (few_in_place t.chars ≡ true) };
 }
 
 impl Text {
@@ -70,6 +70,7 @@ impl Text {
     }
 
     /// How many bytes it has.
+    #[inline(always)]
     pub fn len(&self) -> usize
         ensures count { result ≡ length self.now }
         ensures short { length self.now ≤ MOST_TEXT }
