@@ -26,3 +26,15 @@ fn places_rows(rt: HostRuntime) -> Result<(), Fail> {
     assert!(rt; steps.as_slice() == want.as_slice());
     Ok(())
 }
+
+// Keys that stand in place, and keys that are shared.
+#[test]
+fn places_long_keys(rt: HostRuntime) -> Result<(), Fail> {
+    let alloc = rt.alloc();
+    let old = keys(alloc, "abcdefg", "abcdef", "abcdefgh")?;
+    let new = keys(alloc, "abcdefgh", "abcdefghi", "abcdefg")?;
+    let steps = place(alloc, &old, &new)?;
+    let want = [RowStep::Move(2), RowStep::Insert(1), RowStep::Keep];
+    assert!(rt; steps.as_slice() == want.as_slice());
+    Ok(())
+}

@@ -197,6 +197,97 @@ fn copies_word(alloc: Global, characters: &str) -> Result<bool, Fail> {
     Ok(copy == other)
 }
 
+// Whether a text has these characters.
+fn is_text_of(text: &Text, characters: &str) -> bool {
+    text.len() == characters.len() && text.as_str() == characters
+}
+
+// Whether the text of these characters has them, and so has its copy.
+fn keeps_text(alloc: Global, characters: &str) -> Result<bool, Fail> {
+    let text = Text::new(alloc, characters)?;
+    let copy = text.copy()?;
+    Ok(is_text_of(&text, characters) && is_text_of(&copy, characters))
+}
+
+// Whether a name has these characters.
+fn is_name_of(name: &Name, characters: &str) -> bool {
+    name.len() == characters.len() && name.as_str() == characters
+}
+
+// Whether the name of these characters has them, and so has its copy.
+fn keeps_name(alloc: Global, characters: &str) -> Result<bool, Fail> {
+    let name = Name::new(alloc, characters)?;
+    let copy = name.copy()?;
+    Ok(is_name_of(&name, characters) && is_name_of(&copy, characters))
+}
+
+// Whether two names of these characters are the same.
+fn are_same_names(alloc: Global, first: &str, second: &str) -> Result<bool, Fail> {
+    let first = Name::new(alloc, first)?;
+    let second = Name::new(alloc, second)?;
+    Ok(first == second)
+}
+
+// Texts that stand in place and texts that are shared, also with characters of several bytes at the border.
+#[test]
+fn keeps_texts(rt: HostRuntime) -> Result<(), Fail> {
+    let alloc = rt.alloc();
+    for characters in [
+        "",
+        "abcdef",
+        "abcdefg",
+        "abcdefgh",
+        "abcdefghi",
+        "abcde\u{e9}",
+        "abcdef\u{e9}",
+        "abcd\u{20ac}",
+        "abcde\u{20ac}",
+        "abc\u{1d11e}",
+        "abcd\u{1d11e}",
+        "abcdefg\u{e9}",
+    ] {
+        assert!(rt; keeps_text(alloc, characters)?, "{characters}");
+        assert!(rt;
+            are_same_words(alloc, characters, characters)?,
+            "{characters}"
+        );
+    }
+    Ok(())
+}
+
+#[test]
+fn keeps_names(rt: HostRuntime) -> Result<(), Fail> {
+    let alloc = rt.alloc();
+    for characters in ["a", "abcdef", "abcdefg", "abcdefgh", "abcdefghi"] {
+        assert!(rt; keeps_name(alloc, characters)?, "{characters}");
+        assert!(rt;
+            are_same_names(alloc, characters, characters)?,
+            "{characters}"
+        );
+    }
+    assert!(rt; !are_same_names(alloc, "abcdefg", "abcdefgh")?);
+    assert!(rt; !are_same_names(alloc, "abcdefg", "abcdefh")?);
+    assert!(rt; !are_same_names(alloc, "abcdefgh", "abcdefgi")?);
+    Ok(())
+}
+
+#[test]
+fn tells_texts_apart(rt: HostRuntime) -> Result<(), Fail> {
+    let alloc = rt.alloc();
+    for (first, second) in [
+        ("", "\0"),
+        ("a", "a\0"),
+        ("abcdefg", "abcdefh"),
+        ("abcdefg", "abcdefgh"),
+        ("abcdefgh", "abcdefg"),
+        ("abcdefgh", "abcdefgi"),
+        ("abcdef\u{e9}", "abcdef\u{e8}"),
+    ] {
+        assert!(rt; !are_same_words(alloc, first, second)?, "{first} {second}");
+    }
+    Ok(())
+}
+
 #[test]
 fn copies(rt: HostRuntime) -> Result<(), Fail> {
     let alloc = rt.alloc();
