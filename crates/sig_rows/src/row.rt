@@ -95,8 +95,9 @@ pub fn field_place(fields: &[Name], name: &Name) -> Option<usize>
 fn push_copies(out: &mut Vec<Row>, rows: &[Row]) -> Result<(), NoMemory>
     ensures { OnOk result (out.new.items ≡ out.old.items ++ rows.now) }
 {
+    out.reserve(rows.len())?;
     for row in rows {
-        out.push(row.copy()?)?;
+        out.push_reserved(row.copy()?);
     }
     Ok(())
 }
