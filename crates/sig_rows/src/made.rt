@@ -98,7 +98,7 @@ pub fn moved(alloc: Global, rows: &Rows, key: &Text, place: usize) -> Result<Row
 {
     let from = place_of(rows.rows(), key);
     let Some(now) = moved_from(alloc, rows, from, place)? else {
-        return Ok(rows.copy()?);
+        return rows.copy();
     };
     Ok(now)
 }
@@ -149,7 +149,7 @@ pub fn field_put(
         unreachable!()
     };
     let Some(now) = put_at(alloc, rows, place, at, value)? else {
-        return Ok(rows.copy()?);
+        return rows.copy();
     };
     Ok(now)
 }
