@@ -2,7 +2,7 @@ use Rattle.std.proofs.Common.{◌∙◌, ap, arith}
 use Rattle.std.specs.Prelude.{slice_set}
 use Rattle.sig_seats.specs.declared.finds.Found.{Found}
 use Rattle.sig_seats.specs.Found.{Noted, count_for, place_of}
-use Rattle.sig_seats.proofs.NotedFinds.{Notes, held_here, held_written, noted_here, noted_others}
+use Rattle.sig_seats.proofs.NotedFinds.{held_here, held_written, noted_here, noted_others}
 use Rattle.sig_seats.proofs.finds.Finds.note.Goals as goal
 
 pub returns-then-place-len-clause-here : goal.returns-then-place-len-clause-here
