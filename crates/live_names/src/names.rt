@@ -15,10 +15,12 @@ use std::marker::Model;
 const KEPT: usize = 16;
 
 /// The names that were made and what they stand for, in order of making, and the places of some that were found last: a command looks its name up to
-/// be judged and again to be done, and scripts say few names again and again, which aren't searched for each time.
+/// be judged and again to be done, and scripts say few names again and again, which aren't searched for each time. Neither are names that are said in
+/// order of making, as the place behind the one that was found last is kept too.
 pub struct Names {
     meanings: IndexMap<Name, Meaning>,
     found: [Cell<usize>; KEPT],
+    next: Cell<usize>,
 }
 
 impl Drop for Names {
@@ -26,6 +28,7 @@ impl Drop for Names {
         let Names {
             meanings: _,
             found: _,
+            next: _,
         } = self;
     }
 }
@@ -67,18 +70,36 @@ impl Names {
         Names {
             meanings: IndexMap::new(alloc),
             found: array::from_fn(|_| Cell::new(0)),
+            next: Cell::new(0),
         }
+    }
+
+    // What a name stands for, if it was made at a place.
+    fn meant_at(&self, place: usize, name: &Name) -> Option<Meaning>
+        ensures { IfSome result (λ m. meaning_of self.now name.now ≡ Some m) }
+    {
+        let (known, meaning) = self.meanings.get_index(place)?;
+        if known == name {
+            return Some(*meaning);
+        }
+        None
     }
 
     // What a name stands for, if it is the one that was found last of those that end as it does.
     fn meant_last(&self, name: &Name) -> Option<Meaning>
         ensures { IfSome result (λ m. meaning_of self.now name.now ≡ Some m) }
     {
-        let (known, meaning) = self.meanings.get_index(self.found[kept_for(name)].get())?;
-        if known == name {
-            return Some(*meaning);
-        }
-        None
+        self.meant_at(self.found[kept_for(name)].get(), name)
+    }
+
+    // What a name stands for, if it was made next after the one that was found last.
+    fn meant_next(&self, name: &Name) -> Option<Meaning>
+        ensures { IfSome result (λ m. meaning_of self.now name.now ≡ Some m) }
+    {
+        let place = self.next.get();
+        let meaning = self.meant_at(place, name)?;
+        self.next.set(place.wrapping_add(1));
+        Some(meaning)
     }
 
     // What a name stands for, if it was made. It is looked for, and its place is kept.
@@ -88,6 +109,7 @@ impl Names {
     {
         let (place, _, meaning) = self.meanings.get_full(name)?;
         self.found[kept_for(name)].set(place);
+        self.next.set(place.wrapping_add(1));
         Some(*meaning)
     }
 
@@ -97,6 +119,9 @@ impl Names {
         ensures { result ≡ meaning_of self.now name.now }
     {
         if let Some(meaning) = self.meant_last(name) {
+            return Some(meaning);
+        }
+        if let Some(meaning) = self.meant_next(name) {
             return Some(meaning);
         }
         self.sought(name)

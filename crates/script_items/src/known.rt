@@ -13,6 +13,10 @@ const FEWEST: usize = 64;
 
 const MOST: usize = 16_384;
 
+/// What a place is multiplied by for each further byte. It is little more than ten, so that names which end in numbers of up to four digits have places
+/// of their own.
+const SPREAD: usize = 11;
+
 /// Names that were read lately, each at the place that its bytes give it, where the next one with that place takes it. One that comes again is
 /// neither judged nor put into memory again: it shares the bytes of the one that is known. There are twice as many places after an eighth as
 /// many names weren't known as there are places.
@@ -26,7 +30,7 @@ pub struct KnownNames {
 fn place_of(text: &[u8], count: usize) -> usize {
     let mut place: usize = 0;
     for byte in text {
-        place = place.wrapping_mul(31).wrapping_add(*byte as usize);
+        place = place.wrapping_mul(SPREAD).wrapping_add(*byte as usize);
     }
     place & count.wrapping_sub(1)
 }
