@@ -5,7 +5,7 @@ use Rattle.std.proofs.lemmas.Option.{same_Some}
 use Rattle.std.proofs.lemmas.Bool.{cases_Bool}
 use Rattle.sig_words.specs.Lexemes.{Lexeme, symbol}
 use Rattle.line_forms.specs.Forms.{One, Of}
-use Rattle.line_forms.specs.Reader.{one_of, same, read_fixed, read_one, read_behind, read_listed, read_opened, with_first}
+use Rattle.line_forms.specs.Reader.{each_of, one_of, same, read_fixed, read_one, read_behind, read_listed, read_opened, with_first}
 use Rattle.line_forms.proofs.Soundness.{is_same}
 
 comma : (ls rest : List Lexeme) → Some rest ≡ read_fixed (symbol (codes ",")) ls → ls ≡ symbol (codes ",") ∷ rest
@@ -146,3 +146,17 @@ first_list o ls rest rest2 v e f g = opened o ls rest e ∙ goes_on o rest f (So
 pub no_first : (o : One) (ls rest : List Lexeme) → Some rest ≡ read_fixed (symbol (codes "(")) ls
     → None ≡ read_fixed (symbol (codes ")")) rest → None ≡ read_one o rest → read_listed o ls ≡ None
 no_first o ls rest e f g = opened o ls rest e ∙ goes_on o rest f None g
+
+-- ---- what all tokens say
+
+each_pushed : (o : One) (vs : List (Of o)) (v : Of o) (x : Option (List (Of o)))
+    → option_map (λ ws. (vs ++ v ∷ []) ++ ws) x ≡ option_map (λ ws. vs ++ ws) (option_map (λ ws. v ∷ ws) x)
+each_pushed o vs v None = refl
+each_pushed o vs v (Some ws) = ap (λ (ns : List (Of o)). Some ns) (append_assoc vs (v ∷ []) ws)
+
+-- one more of what all tokens say
+pub each_goes : (o : One) (vs : List (Of o)) (v : Of o) (l : Lexeme) (ls : List Lexeme) (whole : Option (List (Of o)))
+    → Some v ≡ one_of o l → option_map (λ ws. vs ++ ws) (each_of o (l ∷ ls)) ≡ whole → option_map (λ ws. (vs ++ v ∷ []) ++ ws) (each_of o ls) ≡ whole
+each_goes o vs v l ls whole e h =
+    each_pushed o vs v (each_of o ls)
+    ∙ ap (λ (x : Option (Of o)). option_map (λ ws. vs ++ ws) (option_and_then (λ w. option_map (λ ws. w ∷ ws) (each_of o ls)) x)) e ∙ h
